@@ -1,0 +1,16 @@
+pub mod Held
+pub mod Line
+pub mod Reached
+pub mod Wrapped
+pub mod Cases
+pub mod Steps
+pub mod Replay
+pub mod Record
+pub mod Counted
+pub mod Places
+pub mod Totals
+pub mod Owed
+pub mod Served
+pub mod Single
+pub mod Promises
+pub mod Listing

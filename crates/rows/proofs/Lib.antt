@@ -1,0 +1,5 @@
+pub mod Folds
+pub mod Moves
+pub mod Laying
+pub mod Cutting
+pub mod Line

@@ -1,0 +1,71 @@
+-- `cut_rest` lays the row again along the rest's line: the share stored is what the first part leaves of it.
+-- By the rules' law a row less its first part is the row along that line.
+use mathlib.Core.Path.{sym, _∙_}
+use Prim.Native.Nat.{_-_}
+use native.Mathlib.Omega.{arith}
+use borrow.Author.Needs.{needs}
+use denote.Ref.{now}
+use Rattle.rules.proofs.Cut.{restTo, second-relaid}
+use Rattle.rows.proofs.Laying.{laying-more, laying-all}
+use Rattle.rows.proofs.Cutting.{Cutting, cutting-none, cut-turn}
+use Rattle.rows.proofs.cut.cut_rest.Statement.{statement}
+use Rattle.rows.proofs.cut.cut_rest.Tie as tie
+
+abbrev Inv-loop : tie.InvT-loop
+Inv-loop row₀ part span e₀ was₀ i₀ row e was i = Cutting part span (restTo part span) row₀ e was i row
+
+abbrev μ-loop : tie.MeasureT-loop
+μ-loop row₀ part span e₀ was₀ i₀ row e was i = 64 - i
+
+loop-holds : tie.Need-loop-holds Inv-loop μ-loop
+loop-holds c = cutting-none _ _ _ _ (omega arith)
+
+sub-narrow : tie.Need-sub-narrow Inv-loop μ-loop
+sub-narrow c =
+    let k = c .before .before .before .before in
+    omega (arith, cut-turn (k .before .before .pre .1) (k .loop .e) (c .before .wide .result))
+
+sub-narrow-2 : tie.Need-sub-narrow-2 Inv-loop μ-loop
+sub-narrow-2 c =
+    let k = c .before .before .before .before in
+    omega (arith, cut-turn (k .before .before .pre .1) (k .loop .e) (c .before .wide .result))
+
+loop-again : tie.Need-loop-again Inv-loop μ-loop
+loop-again c =
+    let k = c .before .before .before .before .before in
+    let turn = cut-turn (k .before .before .pre .1) (k .loop .e) (c .before .before .wide .result) in
+    record {
+      within = search needs;
+      long = search needs;
+      far = search needs;
+      was-is = search needs;
+      laid = laying-more (k .loop .inv .laid) _ _ (omega arith) (c .before .before .wide .ensures .0) (cc (turn .rest));
+    }
+
+returns : tie.Need-returns Inv-loop μ-loop
+returns c =
+    let at = c .before .before .before .args in
+    laying-all (c .before .loop .inv .laid) (omega arith) ∙ sym (second-relaid (at .part) (at .span) (omega arith) (omega arith) (now (at .row)))
+
+pub cut-rest-spec : {M : Type 1} → statement M
+cut-rest-spec =
+    tie.close
+    (tie.spec
+    Inv-loop
+    μ-loop
+    loop-holds
+    (λ c. search needs)  -- mul-wide
+    (λ c. search needs)  -- slice-read-wide
+    (λ c κs. search needs)  -- wide-requires
+    (λ c. search needs)  -- add-e
+    (λ c κs. search needs)  -- reach-requires
+    sub-narrow
+    sub-narrow-2
+    (λ c κs. search needs)  -- narrow-requires
+    (λ c. search needs)  -- mul-row
+    (λ c. search needs)  -- slice-write-row
+    (λ c. search needs)  -- add-i
+    (λ c. search needs)  -- loop-less
+    loop-again
+    (λ c. search needs)  -- same-length
+    returns)

@@ -1,0 +1,48 @@
+use crate::SLOTS;
+use crate::word::narrow;
+use crate::word::wide;
+ghost use mathlib.Core.Path.{_≡_};
+ghost use Prim.Native.Nat.{_*_, _≤_};
+ghost use lib.ListN.{length};
+ghost use Rattle.rules.specs.Station.{slotCount};
+ghost use Rattle.rules.specs.Slices.{firstTo, firstPart, secondPart};
+ghost use Rattle.rows.specs.Asked.{Cut};
+
+// How many of the first e grains on the line the first part of a cut gets. The line of a row is no longer than 64 words of 32 bits.
+fn reach(e: u64, part: u64, span: u64) -> u64
+    requires { ⌜ Cut part span × (e ≤ slotCount * 4294967295) ⌝ }
+    ensures { λ r. ⌜ r ≡ firstTo part span e ⌝ }
+{
+    e * part / span
+}
+
+// A row becomes the row of the first part of its slice, which has `span` ticks and is cut after its first `part`.
+pub fn cut_first(row: &mut [u32], part: u64, span: u64)
+    requires { ⌜ (length (now row) ≡ slotCount) × Cut part span ⌝ }
+    ensures { λ _. ⌜ now (row .exit) ≡ firstPart part span (now (row .entry)) ⌝ }
+{
+    let mut e: u64 = 0;
+    let mut was: u64 = 0;
+    for i in 0..SLOTS {
+        e += wide(row[i]);
+        let to = reach(e, part, span);
+        row[i] = narrow(to - was);
+        was = to;
+    }
+}
+
+// A row becomes the row of the rest of its slice.
+pub fn cut_rest(row: &mut [u32], part: u64, span: u64)
+    requires { ⌜ (length (now row) ≡ slotCount) × Cut part span ⌝ }
+    ensures { λ _. ⌜ now (row .exit) ≡ secondPart part span (now (row .entry)) ⌝ }
+{
+    let mut e: u64 = 0;
+    let mut was: u64 = 0;
+    for i in 0..SLOTS {
+        let share = wide(row[i]);
+        e += share;
+        let to = reach(e, part, span);
+        row[i] = narrow(share - (to - was));
+        was = to;
+    }
+}

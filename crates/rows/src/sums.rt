@@ -1,0 +1,46 @@
+use crate::word::joined;
+use crate::word::wide;
+ghost use mathlib.Core.Path.{_≡_};
+ghost use Prim.Native.Nat.{_≤_};
+ghost use lib.Dec.{eqb};
+ghost use lib.ListN.{length, take};
+ghost use Rattle.rules.specs.Station.{slotCount, shareWords, sum};
+
+// The sum of any part of the table: 4,096 words of 32 bits add up to less than 2 to the 44th.
+pub fn total(words: &[u32]) -> u64
+    requires { ⌜ length (now words) ≤ shareWords ⌝ }
+    ensures { λ r. ⌜ r ≡ sum (now (words .entry)) ⌝ }
+{
+    let mut grains: u64 = 0;
+    for i in 0..words.len() {
+        grains += wide(words[i]);
+    }
+    grains
+}
+
+// The shares of a row, added up.
+pub fn sum(row: &[u32]) -> u64
+    requires { ⌜ length (now row) ≡ slotCount ⌝ }
+    ensures { λ r. ⌜ r ≡ sum (now (row .entry)) ⌝ }
+{
+    total(row)
+}
+
+// The shares of the slots before n, added up: where slot n begins on the line.
+pub fn prefix(row: &[u32], n: usize) -> u64
+    requires { ⌜ (length (now row) ≡ slotCount) × (n ≤ slotCount) ⌝ }
+    ensures { λ r. ⌜ r ≡ sum (take n (now (row .entry))) ⌝ }
+{
+    total(&row[..n])
+}
+
+// Whether all words of a part are zero. They are joined and not compared, so that the loop has no early end.
+pub fn all_zero(words: &[u32]) -> bool
+    ensures { λ r. ⌜ r ≡ eqb (sum (now (words .entry))) 0 ⌝ }
+{
+    let mut seen: u32 = 0;
+    for i in 0..words.len() {
+        seen = joined(seen, words[i]);
+    }
+    seen == 0
+}

@@ -1,0 +1,3 @@
+pub mod Rowed
+pub mod Shifted
+pub mod Zeros

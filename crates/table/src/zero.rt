@@ -1,0 +1,30 @@
+use crate::ROWS;
+use crate::WORDS;
+use crate::row::row_clear;
+use rows::SLOTS;
+ghost use mathlib.Core.Path.{_≡_};
+ghost use mathlib.Core.List.{[]};
+ghost use Prim.Native.Nat.{_*_, _≤_};
+ghost use lib.Dec.{eqb};
+ghost use lib.ListN.{length, take, drop};
+ghost use Rattle.rules.specs.Station.{slotCount, rowCount, shareWords, sum};
+ghost use Rattle.rules.specs.Words.{Rowed, rowsIn};
+
+// Whether all rows from n on are zero.
+pub fn rows_zero(shares: &[u32], n: usize) -> bool
+    requires { ⌜ (shareWords ≤ length (now shares)) × (n ≤ rowCount) ⌝ }
+    ensures { λ r. ⌜ r ≡ eqb (sum (drop (slotCount * n) (take shareWords (now (shares .entry))))) 0 ⌝ }
+{
+    let a = SLOTS * n;
+    rows::sums::all_zero(&shares[a..WORDS])
+}
+
+// "all 4,096 words zero"
+pub fn clear_table(shares: &mut [u32])
+    requires { ⌜ shareWords ≤ length (now shares) ⌝ }
+    ensures { λ _. ⌜ Rowed (now (shares .entry)) (rowsIn rowCount []) (now (shares .exit)) ⌝ }
+{
+    for k in 0..ROWS {
+        row_clear(shares, k);
+    }
+}

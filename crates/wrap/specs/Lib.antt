@@ -1,0 +1,4 @@
+pub mod Asked
+pub mod Line
+pub mod Shown
+pub mod Found
