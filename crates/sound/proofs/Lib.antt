@@ -1,0 +1,8 @@
+pub mod Tests
+pub mod Rate
+pub mod Bits
+pub mod Dues
+pub mod Passed
+pub mod Near
+pub mod Ends
+pub mod Clauses

@@ -1,0 +1,65 @@
+-- `one_slice` answers at once for a slice that is not within the longest period, and looks at its row and at the deadlines otherwise.
+-- What the two passes give is what the slice's test asks.
+use mathlib.Core.Path.{_≡_}
+use mathlib.Core.Logic.{⊎-elim}
+use mathlib.Core.Bool.{true, false}
+use Prim.Native.Nat.{_-_}
+use native.Mathlib.Omega.{arith}
+use borrow.Author.Tests.{lt-ltb, le-ltb, le-leb, lt-leb, ltb-true, ltb-false}
+use borrow.Author.Needs.{needs}
+use denote.Ref.{now}
+use Rattle.rules.specs.Words.{rowAt}
+use Rattle.sound.specs.Due.{within, sliceCheck, sliceHits, sliceAt}
+use Rattle.sound.proofs.Passed.{not-within}
+use Rattle.sound.proofs.slice.one_slice.Statement.{statement}
+use Rattle.sound.proofs.slice.one_slice.Tie as tie
+
+outside : (c : tie.Joined1) → let at = c .before .before .before .before .before .before .args in within (at .start) (at .lo) (at .end) ≡ false
+unfolding within
+outside c =
+    let at = c .before .before .before .before .before .before .args in
+    ⊎-elim
+    (λ w. rw (le-ltb (at .lo) (at .end) (omega arith)))
+    (λ v. ⊎-elim
+    (λ w. rw (lt-ltb (at .lo) (at .end) (omega arith), lt-leb (at .end - at .start) 60000 (omega (arith, ltb-true))))
+    (λ w. rw (lt-ltb (at .lo) (at .end) (omega arith), le-leb (at .end - at .start) 60000 (omega (arith, ltb-false)), lt-leb (at .end - at .lo) 60000 (omega (arith, ltb-true))))
+    v)
+    (c .if1 .came)
+
+inside : (c : tie.Else3) → let at = c .before .before .before .before .before .before .before .before .args in within (at .start) (at .lo) (at .end) ≡ true
+unfolding within
+inside c =
+    let at = c .before .before .before .before .before .before .before .before .args in
+    rw (lt-ltb (at .lo) (at .end) (omega arith), le-leb (at .end - at .start) 60000 (omega (arith, ltb-false)), le-leb (at .end - at .lo) 60000 (omega (arith, ltb-false)))
+
+returns : tie.Need-returns
+returns c =
+    let at = c .before .before .before .before .before .before .args in
+    let none = not-within (at .start) (now (at .due)) (now (at .rates)) (at .lo) (at .end) (rowAt (at .k) (now (at .shares))) (outside c) in
+    (none .0, none .1, omega arith)
+
+narrow-requires : tie.Need-narrow-requires
+narrow-requires c κs = omega (arith, ltb-false)
+
+row-fits-requires : tie.Need-row-fits-requires
+row-fits-requires c κs = omega (arith, ltb-false)
+
+returns-2 : tie.Need-returns-2
+unfolding sliceCheck sliceHits sliceAt
+returns-2 c =
+    let ok = inside (c .before .before .before .before .before) in
+    (rw ok (cc), rw ok (cc), search needs)
+
+pub one-slice-spec : {M : Type 1} → statement M
+one-slice-spec =
+    tie.close
+    (tie.spec
+    (λ c κs. search needs)  -- since-requires
+    (λ c κs. search needs)  -- since-requires-2
+    returns
+    narrow-requires
+    (λ c κs. search needs)  -- row-look-requires
+    (λ c κs. search needs)  -- narrow-requires-2
+    (λ c κs. search needs)  -- due-facts-requires
+    row-fits-requires
+    returns-2)

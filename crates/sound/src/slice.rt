@@ -1,0 +1,121 @@
+use crate::GRAINS;
+use crate::LONGEST_PERIOD;
+use crate::due::DueFacts;
+use crate::due::due_facts;
+use rows::look::RowFacts;
+use rows::word::narrow;
+use rows::word::wide;
+use table::ROWS;
+use table::row::row_look;
+ghost use mathlib.Core.Path.{_≡_};
+ghost use mathlib.Core.Bool.{_&&_};
+ghost use Prim.Native.Nat.{_+_, _-_, _≤_, _<_};
+ghost use lib.Dec.{eqb};
+ghost use lib.ListN.{length, take, drop};
+ghost use Rattle.rules.specs.Station.{longestPeriod, slotCount, rowCount, shareWords, sum};
+ghost use Rattle.rules.specs.Sound.{eachSlice};
+ghost use Rattle.rules.specs.Words.{rowsOf, rowAt, slicesOf};
+ghost use Rattle.sound.specs.Due.{sliceCheck, sliceHits, allHits, sliceAt, rowTest};
+
+// Whether slices are sound, and how many jobs are due at their ends.
+pub struct SliceFacts {
+    pub ok: bool,
+    pub hits: u64,
+}
+
+// From a to b, or 0 where b is not after a.
+fn since(a: u64, b: u64) -> u64
+    ensures { λ r. ⌜ r ≡ b - a ⌝ }
+{
+    if a < b { b - a } else { 0 }
+}
+
+// What one pass over the row and one over the deadlines gave, for a slice that is `long` ticks long.
+fn row_fits(row: RowFacts, jobs: DueFacts, long: u64) -> bool
+    requires { ⌜ (long ≤ longestPeriod) × (jobs .owed ≤ 274877906880) ⌝ }
+    ensures { λ r. ⌜ r ≡ rowTest (row .largest) (row .strays) (row .sum) long (jobs .owed) (jobs .hits) ⌝ }
+{
+    wide(row.largest) <= GRAINS * long
+        && row.strays == 0
+        && row.sum <= long * jobs.owed
+        && 0 < jobs.hits
+}
+
+// Row k, whose slice runs from lo to end. Any ends may come: those that no sound table has are answered before anything is computed.
+fn one_slice(
+    shares: &[u32],
+    k: usize,
+    due: &[u32],
+    rates: &[u32],
+    start: u64,
+    lo: u64,
+    end: u64,
+) -> SliceFacts
+    requires { ⌜ (shareWords ≤ length (now shares)) × (k < rowCount) × (length (now due) ≡ slotCount) × (length (now rates) ≡ slotCount) ⌝ }
+    ensures { λ r. ⌜ (r .ok ≡ sliceCheck start (now (due .entry)) (now (rates .entry)) lo (sliceAt end (rowAt k (now (shares .entry))))) × (r .hits ≡ sliceHits start (now (due .entry)) lo (sliceAt end (rowAt k (now (shares .entry))))) × (r .hits ≤ slotCount) ⌝ }
+{
+    let at = since(start, end);
+    let long = since(lo, end);
+    if long == 0 || LONGEST_PERIOD < at || LONGEST_PERIOD < long {
+        return SliceFacts { ok: false, hits: 0 };
+    }
+    let row = row_look(shares, k, due, narrow(at));
+    let jobs = due_facts(due, rates, narrow(at));
+    SliceFacts {
+        ok: row_fits(row, jobs, long),
+        hits: jobs.hits,
+    }
+}
+
+// What was found so far, with one slice more.
+fn with_slice(found: SliceFacts, one: SliceFacts) -> SliceFacts
+    requires { ⌜ (found .hits ≤ 4096) × (one .hits ≤ slotCount) ⌝ }
+    ensures { λ r. ⌜ (r .ok ≡ found .ok && one .ok) × (r .hits ≡ found .hits + one .hits) ⌝ }
+{
+    let hits = found.hits + one.hits;
+    SliceFacts {
+        ok: found.ok && one.ok,
+        hits: hits,
+    }
+}
+
+// All slices: boundary k with row k, `count` of them, the first from the plan start.
+pub fn slices_sound(
+    shares: &[u32],
+    due: &[u32],
+    rates: &[u32],
+    ends: &[u64],
+    count: usize,
+    start: u64,
+) -> SliceFacts
+    requires { ⌜ (shareWords ≤ length (now shares)) × (length (now due) ≡ slotCount) × (length (now rates) ≡ slotCount) × (length (now ends) ≡ rowCount) × (count ≤ rowCount) ⌝ }
+    ensures { λ r. ⌜ (r .ok ≡ eachSlice (sliceCheck start (now (due .entry)) (now (rates .entry))) start (slicesOf (take count (now (ends .entry))) (rowsOf rowCount (now (shares .entry))))) × (r .hits ≡ allHits start (now (due .entry)) start (slicesOf (take count (now (ends .entry))) (rowsOf rowCount (now (shares .entry))))) ⌝ }
+{
+    let mut found = SliceFacts { ok: true, hits: 0 };
+    let mut lo = start;
+    for k in 0..count {
+        let end = ends[k];
+        found = with_slice(found, one_slice(shares, k, due, rates, start, lo, end));
+        lo = end;
+    }
+    found
+}
+
+// A word more that has to be zero.
+fn and_zero(ok: bool, word: u64) -> bool
+    ensures { λ r. ⌜ r ≡ ok && eqb word 0 ⌝ }
+{
+    ok && word == 0
+}
+
+// No boundary is left past the last.
+pub fn ends_zero(ends: &[u64], count: usize) -> bool
+    requires { ⌜ (length (now ends) ≡ rowCount) × (count ≤ rowCount) ⌝ }
+    ensures { λ r. ⌜ r ≡ eqb (sum (drop count (now (ends .entry)))) 0 ⌝ }
+{
+    let mut ok = true;
+    for k in count..ROWS {
+        ok = and_zero(ok, ends[k]);
+    }
+    ok
+}
