@@ -14,3 +14,4 @@ pub mod Served
 pub mod Single
 pub mod Promises
 pub mod Listing
+pub mod Carried

@@ -1,0 +1,130 @@
+-- A history carried out by the planner's own contracts is the rules' history: the same tables, answers and segments. By induction along the
+-- calls: what a call leaves on a sound table is the rules' step, put into a planner and words, from which the table comes back.
+use mathlib.Core.Path.{_≡_, refl, ap, sym, _∙_}
+use mathlib.Core.Bool.{true}
+use mathlib.Core.List.{List, [], _∷_, _++_}
+use Prim.Native.Nat.{ℕ, _≤_, _+_, _-_}
+use native.Mathlib.Omega.{arith}
+use lib.ListN.{length, drop, length-append, length-drop}
+use lib.Seq.{drop-at}
+use Rattle.rules.specs.Station.{Table, rowCount, shareWords}
+use Rattle.rules.specs.Sound.{Sound}
+use Rattle.rules.specs.Calls.{Call, Outcome, step}
+use Rattle.rules.specs.History.{after, outcomes, stamped}
+use Rattle.rules.specs.Words.{wordsOf, written}
+use Rattle.rules.proofs.Kept.{step-sound}
+use Rattle.plan.specs.Planned.{endsIn}
+use Rattle.plan.proofs.Padded.{ends-padded, padded-length}
+use Rattle.sound.specs.Lent.{tableAt}
+use Rattle.planner.specs.declared.Planner.{Planner}
+use Rattle.planner.specs.Held.{tableOf, plannerOf, isSoundIn, Left, heldAs, called, Agrees}
+use Rattle.planner.proofs.Joint.{agrees, same-planner, same-words}
+use Rattle.planner.proofs.Round.{same-table, words-length, still-sound}
+use Rattle.planner.proofs.Promises.{sound-of}
+use Rattle.history.specs.Carried.{Made, callOf, bufferOf, callsOf, leftBy, carried, lastPlanner, lastWords, answersOf, buffersOf, answersIn, buffersIn}
+use Rattle.history.proofs.Promises.{cut-independence}
+
+module _ (p : Planner) (words : List ℕ) (wide : length (p .ends) ≡ rowCount) (ok : isSoundIn p words ≡ true) (m : Made) where
+  -- the rules' outcome of the call
+  abbrev outcome : Outcome
+  outcome = step (length words) (tableOf p words) (callOf m)
+
+  left-is : leftBy p words m ≡ heldAs words (bufferOf m) outcome
+  unfolding leftBy called
+  left-is = rw ok
+
+  next-kept : Sound (outcome .table)
+  next-kept = step-sound (length words) (tableOf p words) (callOf m) (sound-of p words ok)
+
+  next-table : tableOf (leftBy p words m .planner) (leftBy p words m .words) ≡ outcome .table
+  unfolding heldAs
+  next-table = rw left-is (same-table (outcome .table) next-kept (drop shareWords words))
+
+  next-ok : isSoundIn (leftBy p words m .planner) (leftBy p words m .words) ≡ true
+  unfolding heldAs
+  next-ok = rw left-is (still-sound (outcome .table) next-kept (drop shareWords words))
+
+  next-wide : length (leftBy p words m .planner .ends) ≡ rowCount
+  unfolding heldAs plannerOf
+  next-wide = rw left-is (padded-length ends-padded rowCount (outcome .table .slices))
+
+  next-long : length (leftBy p words m .words) ≡ length words
+  unfolding heldAs
+  next-long = rw left-is (simp (length-append, length-drop) (omega (arith, words-length (outcome .table) next-kept (drop shareWords words), agrees p words wide ok .long)))
+
+  next-past : drop shareWords (leftBy p words m .words) ≡ drop shareWords words
+  unfolding heldAs
+  next-past = rw left-is (drop-at (wordsOf (outcome .table)) (drop shareWords words) shareWords (words-length (outcome .table) next-kept (drop shareWords words)))
+
+  next-answer : leftBy p words m .answer ≡ outcome .answer
+  unfolding heldAs
+  next-answer = rw left-is
+
+  next-buffer : leftBy p words m .buffer ≡ written (outcome .segments) (bufferOf m)
+  unfolding heldAs
+  next-buffer = rw left-is
+
+-- The table at the end is the rules' table.
+pub carried-table : (p : Planner) (words : List ℕ) (ms : List Made) → length (p .ends) ≡ rowCount → isSoundIn p words ≡ true
+    → tableOf (lastPlanner p words ms) (lastWords p words ms) ≡ after (length words) (tableOf p words) (callsOf ms)
+unfolding lastPlanner lastWords after callsOf
+carried-table p words [] wide ok = refl
+carried-table p words (m ∷ ms) wide ok =
+    carried-table (leftBy p words m .planner) (leftBy p words m .words) ms (next-wide p words wide ok m) (next-ok p words wide ok m)
+    ∙ rw (next-long p words wide ok m, next-table p words wide ok m)
+
+-- The answers are the rules' answers.
+pub carried-answers : (p : Planner) (words : List ℕ) (ms : List Made) → length (p .ends) ≡ rowCount → isSoundIn p words ≡ true
+    → answersOf (carried p words ms) ≡ answersIn (outcomes (length words) (tableOf p words) (callsOf ms))
+unfolding carried answersOf answersIn outcomes callsOf
+carried-answers p words [] wide ok = refl
+carried-answers p words (m ∷ ms) wide ok =
+    let rest : answersOf (carried (leftBy p words m .planner) (leftBy p words m .words) ms) ≡ answersIn (outcomes (length words) (step (length words) (tableOf p words) (callOf m) .table) (callsOf ms)) =
+    carried-answers (leftBy p words m .planner) (leftBy p words m .words) ms (next-wide p words wide ok m) (next-ok p words wide ok m)
+    ∙ rw (next-long p words wide ok m, next-table p words wide ok m) in
+    rw (next-answer p words wide ok m, rest)
+
+-- The segment buffers hold the rules' segments, and after them what they held.
+pub carried-segments : (p : Planner) (words : List ℕ) (ms : List Made) → length (p .ends) ≡ rowCount → isSoundIn p words ≡ true
+    → buffersOf (carried p words ms) ≡ buffersIn ms (outcomes (length words) (tableOf p words) (callsOf ms))
+unfolding carried buffersOf buffersIn outcomes callsOf
+carried-segments p words [] wide ok = refl
+carried-segments p words (m ∷ ms) wide ok =
+    let rest : buffersOf (carried (leftBy p words m .planner) (leftBy p words m .words) ms) ≡ buffersIn ms (outcomes (length words) (step (length words) (tableOf p words) (callOf m) .table) (callsOf ms)) =
+    carried-segments (leftBy p words m .planner) (leftBy p words m .words) ms (next-wide p words wide ok m) (next-ok p words wide ok m)
+    ∙ rw (next-long p words wide ok m, next-table p words wide ok m) in
+    rw (next-buffer p words wide ok m, rest)
+
+-- The planner and the words at the end hold a sound table, and the words past it are as they were.
+last-agrees : (p : Planner) (words : List ℕ) (ms : List Made) → length (p .ends) ≡ rowCount → isSoundIn p words ≡ true → Agrees (lastPlanner p words ms) (lastWords p words ms)
+unfolding lastPlanner lastWords
+last-agrees p words [] wide ok = agrees p words wide ok
+last-agrees p words (m ∷ ms) wide ok = last-agrees (leftBy p words m .planner) (leftBy p words m .words) ms (next-wide p words wide ok m) (next-ok p words wide ok m)
+
+last-past : (p : Planner) (words : List ℕ) (ms : List Made) → length (p .ends) ≡ rowCount → isSoundIn p words ≡ true → drop shareWords (lastWords p words ms) ≡ drop shareWords words
+unfolding lastWords
+last-past p words [] wide ok = refl
+last-past p words (m ∷ ms) wide ok = last-past (leftBy p words m .planner) (leftBy p words m .words) ms (next-wide p words wide ok m) (next-ok p words wide ok m) ∙ next-past p words wide ok m
+
+clock-of : (p : Planner) (words : List ℕ) → tableOf p words .clock ≡ p .clock
+unfolding tableOf tableAt
+clock-of p words = refl
+
+-- How time was cut into advances changes nothing in what runs: the same calls at the same ticks, and the same last clock, leave the same struct
+-- and the same words.
+pub carried-cut : (p : Planner) (words : List ℕ) (ms ns : List Made) → length (p .ends) ≡ rowCount → isSoundIn p words ≡ true
+    → stamped (length words) (tableOf p words) (callsOf ms) ≡ stamped (length words) (tableOf p words) (callsOf ns)
+    → lastPlanner p words ms .clock ≡ lastPlanner p words ns .clock
+    → (lastPlanner p words ms ≡ lastPlanner p words ns) × (lastWords p words ms ≡ lastWords p words ns)
+carried-cut p words ms ns wide ok stamps last =
+    let one = carried-table p words ms wide ok in
+    let two = carried-table p words ns wide ok in
+    let clock : after (length words) (tableOf p words) (callsOf ms) .clock ≡ after (length words) (tableOf p words) (callsOf ns) .clock =
+    sym (ap (λ t. t .clock) one) ∙ clock-of (lastPlanner p words ms) (lastWords p words ms) ∙ last ∙ sym (clock-of (lastPlanner p words ns) (lastWords p words ns)) ∙ ap (λ t. t .clock) two in
+    let same : tableOf (lastPlanner p words ms) (lastWords p words ms) ≡ tableOf (lastPlanner p words ns) (lastWords p words ns) =
+    one ∙ cut-independence (length words) (tableOf p words) (sound-of p words ok) (callsOf ms) (callsOf ns) stamps clock .1 ∙ sym two in
+    let a = last-agrees p words ms wide ok in
+    let b = last-agrees p words ns wide ok in (
+      sym (same-planner a) ∙ ap plannerOf same ∙ same-planner b,
+      sym (same-words a) ∙ rw (same, last-past p words ms wide ok, ← (last-past p words ns wide ok)) (same-words b),
+    )

@@ -1,0 +1,13 @@
+pub mod Used
+pub mod Joint
+pub mod Called
+pub mod Slotted
+pub mod Withdrawn
+pub mod Opening
+pub mod Declaring
+pub mod Releasing
+pub mod First
+pub mod Onward
+pub mod Looking
+pub mod Round
+pub mod Promises

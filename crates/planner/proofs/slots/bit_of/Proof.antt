@@ -1,0 +1,24 @@
+-- `bit_of` is a 1 shifted by less than the width. Assumes nothing.
+use Rattle.planner.proofs.Used.{shifted-one}
+use mathlib.Core.Path.{_≡_, refl}
+use mathlib.Core.List.{_++_}
+use Prim.Native.Nat.{_+_, _-_, _*_, _<_, _≤_}
+use native.Mathlib.Omega.{arith}
+use borrow.Author.Needs.{needs}
+use denote.Ref.{now}
+use lib.ListN.{length, take, drop, getD, set}
+use Rattle.planner.proofs.slots.bit_of.Statement.{statement}
+use Rattle.planner.proofs.slots.bit_of.Tie as tie
+use Rattle.planner.proofs.slots.bit_of.Reads as reads
+use Rattle.planner.proofs.slots.bit_of.Lts as lts
+
+-- src/slots.rt:28:5
+shl-result : tie.Need-shl-result
+shl-result c = search needs
+
+-- src/slots.rt:24:1
+returns : tie.Need-returns
+returns c = shifted-one 64 (c .args .slot) (c .pre)
+
+pub bit-of-spec : {M : Type 1} → statement M
+bit-of-spec = tie.close (tie.spec shl-result returns)

@@ -1,0 +1,33 @@
+-- What holder answers, by document 01's number and its three cases.
+use mathlib.Core.Bool.{cond}
+use mathlib.Core.List.{List}
+use Prim.Native.Nat.{ℕ, zero, suc}
+use lib.ListN.{length}
+use Rattle.rules.specs.Advance.{Holding, held, idleUntil, idle, holderOf}
+use Rattle.rules.specs.Calls.{holderNumber}
+use Rattle.planner.specs.declared.Planner.{Planner}
+use Rattle.planner.specs.declared.Holder.{Holder}
+use Rattle.planner.specs.declared.Holder.the-variants.{Held, IdleUntil, Idle, Refused}
+use Rattle.planner.specs.Held.{tableOf, isSoundIn}
+
+-- a refusal's number, or 0, and who holds the core
+pub record Told : Type 0 where
+  pub number : ℕ
+  pub holding : Holding
+
+-- (a refusal's number is above 0: `Refused` with 0 reads as no answer of document 01)
+unfoldable pub toldBy : Holder → Told
+toldBy (Held slot until) = record { number = 0; holding = held slot until }
+toldBy (IdleUntil grain) = record { number = 0; holding = idleUntil grain }
+toldBy Idle = record { number = 0; holding = idle }
+toldBy (Refused zero) = record { number = 1; holding = idleUntil 0 }
+toldBy (Refused (suc n)) = record { number = suc n; holding = idle }
+
+unfoldable pub toldIf : ℕ → Holding → Told
+toldIf zero h = record { number = 0; holding = h }
+toldIf (suc n) h = record { number = suc n; holding = idle }
+
+-- Holder: for a sound table the rules' answer; for any other, refusal 1.
+unfoldable pub told : Planner → List ℕ → ℕ → Told
+told p words core =
+    cond (isSoundIn p words) (toldIf (holderNumber (length words) (tableOf p words) core) (holderOf (tableOf p words) core)) (record { number = 1; holding = idle })
