@@ -12,6 +12,8 @@ pub mod Totals
 pub mod Owed
 pub mod Served
 pub mod Single
+pub mod Carried
+pub mod Opened
+pub mod Examples
 pub mod Promises
 pub mod Listing
-pub mod Carried

@@ -1,5 +1,5 @@
 -- The listing of document 01, 'The drill program', by the definitions of specs/: its jobs, some grains counted, and two promises at work.
--- The first two are computed; the others are `opened-allowance-held` for the second job, and `opened-cut-independence` for a finer cut.
+-- The first two are computed; the others are `allowance-held` for the second job, and `cut-independence` for a finer cut.
 use mathlib.Core.Path.{_≡_, refl}
 use mathlib.Core.List.{List, [], _∷_, List·Memᴰ, List·Memᴰ·head, List·Memᴰ·tail}
 use Prim.Native.Nat.{ℕ}
@@ -7,8 +7,9 @@ use native.Mathlib.Omega.{arith}
 use Rattle.rules.specs.Calls.{Call, declare, release, advance, opened}
 use Rattle.rules.specs.History.{after, recordOf, heldAt, stamped}
 use Rattle.rules.proofs.Checked.{rules}
+use Rattle.rules.proofs.Kept.{opened-sound}
 use Rattle.history.specs.Jobs.{Job, jobAt, jobsBy, jobsOf, heldBy, coresHeld, grainsIn, grainsHeld}
-use Rattle.history.proofs.Promises.{opened-cut-independence, opened-allowance-held}
+use Rattle.history.proofs.Promises.{cut-independence, allowance-held}
 
 abbrev listing : List Call
 listing = declare 10 5000 ∷ (declare 4 1200 ∷ (release 0 ∷ (advance 1 320 ∷ (release 1 ∷ (advance 10 320 ∷ (advance 10 320 ∷ []))))))
@@ -35,7 +36,7 @@ listing-clock = refl
 pub listing-held : grainsHeld (recordOf 4096 (opened 1) listing) 1 1000 5000 ≡ 1200
 listing-held =
     let listed : List·Memᴰ second (jobsOf 4096 (opened 1) listing) = rw listing-jobs (List·Memᴰ·tail (List·Memᴰ·head refl)) in
-    opened-allowance-held 4096 1 (omega arith) (omega arith) listing second listed (omega (arith, listing-clock))
+    allowance-held 4096 (opened 1) (opened-sound 1 (omega arith) (omega arith)) listing second listed (omega (arith, listing-clock))
 
 -- the same calls at the same ticks, with time cut otherwise
 abbrev finer : List Call
@@ -50,4 +51,4 @@ unfolding rules
 finer-clock = refl
 
 pub finer-held : (core grain : ℕ) → heldAt (recordOf 4096 (opened 1) finer) core grain ≡ heldAt (recordOf 4096 (opened 1) listing) core grain
-finer-held = opened-cut-independence 4096 1 (omega arith) (omega arith) finer listing finer-stamps (omega (arith, finer-clock, listing-clock)) .0
+finer-held = cut-independence 4096 (opened 1) (opened-sound 1 (omega arith) (omega arith)) finer listing finer-stamps (omega (arith, finer-clock, listing-clock)) .0

@@ -1,15 +1,24 @@
--- The promises of demand 3: first of every history of calls on a sound table, then of one on a table freshly opened. Nothing is shown
--- here; each promise cites Replay, Served, Record or Single, where its idea is said.
-use mathlib.Core.Path.{_≡_}
+-- The promises of demand 3: of every history of calls on a sound table, then of the calls as they run, from open. Nothing is shown here but what is cited.
+use mathlib.Core.Path.{_≡_, sym, _∙_}
+use mathlib.Core.Bool.{true}
 use mathlib.Core.Logic.{_⊎_, ⊎-elim}
 use mathlib.Core.List.{List, List·Memᴰ}
 use Prim.Native.Nat.{ℕ, suc, _+_, _≤_, _<_}
+use lib.ListN.{length}
 use Rattle.rules.specs.Station.{Table, grains, taskAt}
 use Rattle.rules.specs.Sound.{Sound}
 use Rattle.rules.specs.Calls.{Call, Outcome, opened}
 use Rattle.rules.specs.History.{after, outcomes, recordOf, heldAt, stamped}
 use Rattle.rules.proofs.Kept.{opened-sound}
+use Rattle.rules.specs.Checked.{examples}
+use Rattle.planner.specs.declared.Planner.{Planner}
+use Rattle.planner.specs.Held.{Left, opening}
+use Rattle.history.specs.Carried.{Made, callsOf, carried, lastPlanner, lastWords, recordIn, stampedIn}
+use Rattle.history.specs.Examples.{allRan}
 use Rattle.history.specs.Jobs.{Job, jobsOf, JobDuring, holdersAt, grainsHeld, stillOwed}
+use Rattle.history.proofs.Carried.{carried-cut, carried-never-1}
+use Rattle.history.proofs.Opened.{open-ok, open-wide, open-record, open-clock, open-stamps}
+use Rattle.history.proofs.Examples.{examples-ran}
 use Rattle.history.proofs.Replay.{same-run}
 use Rattle.history.proofs.Record.{record-within, record-one, record-job, outcomes-never-one, opened-idle}
 use Rattle.history.proofs.Single.{record-single}
@@ -58,32 +67,54 @@ module _ (words : ℕ) (t : Table) (sound : Sound t) where
 pub never-refused-1 : (words : ℕ) (t : Table) → 4096 ≤ words → Sound t → (cs : List Call) (o : Outcome) → List·Memᴰ o (outcomes words t cs) → o .answer .number ≡ 1 → ⊥
 never-refused-1 words t = outcomes-never-one words t
 
--- The same from open, with 1 to 16 cores.
-module _ (words m : ℕ) (some : 1 ≤ m) (few : m ≤ 16) where
-  pub opened-cut-independence : (cs ds : List Call) → stamped words (opened m) cs ≡ stamped words (opened m) ds → after words (opened m) cs .clock ≡ after words (opened m) ds .clock
-      → ((core grain : ℕ) → heldAt (recordOf words (opened m) cs) core grain ≡ heldAt (recordOf words (opened m) ds) core grain) × (after words (opened m) cs ≡ after words (opened m) ds)
-  opened-cut-independence = cut-independence words (opened m) (opened-sound m some few)
+-- P1 to P10 and the listing come out right through the planner's contracts, whatever planner was there and whatever words are lent: one table, one statement.
+pub run-examples : (q : Planner) (words : List ℕ) → 4096 ≤ length words → allRan q words examples ≡ true
+run-examples = examples-ran
 
-  pub opened-allowance-held : (cs : List Call) (j : Job) → List·Memᴰ j (jobsOf words (opened m) cs) → j .deadline ≤ after words (opened m) cs .clock
-      → grainsHeld (recordOf words (opened m) cs) (j .slot) (grains (j .released)) (grains (j .deadline)) ≡ j .allowance
-  opened-allowance-held = allowance-held words (opened m) (opened-sound m some few)
+-- The same of the calls as they run, from open with 1 to 16 cores: whatever planner q was there and whatever words are lent, if only 4,096. Each
+-- call's exit values are handed to the next, and the record is read from the segment buffers.
+module _ (q : Planner) (words : List ℕ) (long : 4096 ≤ length words) (m : ℕ) (some : 1 ≤ m) (few : m ≤ 16) where
+  abbrev p : Planner
+  p = opening q words m .planner
 
-  pub opened-allowance-so-far : (cs : List Call) (j : Job) → List·Memᴰ j (jobsOf words (opened m) cs) → after words (opened m) cs .clock < j .deadline
-      → grainsHeld (recordOf words (opened m) cs) (j .slot) (grains (j .released)) (grains (after words (opened m) cs .clock)) + stillOwed (after words (opened m) cs) (j .slot) ≡ j .allowance
-  opened-allowance-so-far = allowance-so-far words (opened m) (opened-sound m some few)
+  abbrev w : List ℕ
+  w = opening q words m .words
 
-  pub opened-one-core : (cs : List Call) (core core′ grain k : ℕ) → heldAt (recordOf words (opened m) cs) core grain ≡ suc k → heldAt (recordOf words (opened m) cs) core′ grain ≡ suc k → core ≡ core′
-  opened-one-core = one-core words (opened m) (opened-sound m some few)
+  abbrev jobs : List Made → List Job
+  jobs ms = jobsOf (length words) (opened m) (callsOf ms)
 
-  pub opened-one-holder : (cs : List Call) (core grain : ℕ) → holdersAt (recordOf words (opened m) cs) core grain ≤ 1
-  opened-one-holder = one-holder words (opened m) (opened-sound m some few)
+  -- How time was cut into advances changes nothing: the same holder of every core in every grain, the same struct, and the same words.
+  pub run-cut : (ms ns : List Made) → stampedIn p w ms ≡ stampedIn p w ns → lastPlanner p w ms .clock ≡ lastPlanner p w ns .clock
+      → ((core grain : ℕ) → heldAt (recordIn (carried p w ms)) core grain ≡ heldAt (recordIn (carried p w ns)) core grain)
+      × (lastPlanner p w ms ≡ lastPlanner p w ns) × (lastWords p w ms ≡ lastWords p w ns)
+  run-cut ms ns stamps last =
+      let stamps′ = sym (open-stamps q words long m some few ms) ∙ stamps ∙ open-stamps q words long m some few ns in
+      let last′ = sym (open-clock q words long m some few ms) ∙ last ∙ open-clock q words long m some few ns in
+      let cut = cut-independence (length words) (opened m) (opened-sound m some few) (callsOf ms) (callsOf ns) stamps′ last′ in
+      let held = carried-cut p w ms ns (open-wide q words long m some few) (open-ok q words long m some few) stamps last in
+      ((λ core grain. rw (open-record q words long m some few ms, open-record q words long m some few ns) (cut .0 core grain)), held .0, held .1)
 
-  pub opened-no-job-no-run : (cs : List Call) (core grain k : ℕ) → heldAt (recordOf words (opened m) cs) core grain ≡ suc k
-      → JobDuring (jobsOf words (opened m) cs) k grain × (grain < grains (after words (opened m) cs .clock)) × (core < m)
+  -- A job whose deadline is reached held exactly its allowance, from its release to its deadline.
+  pub run-allowance : (ms : List Made) (j : Job) → List·Memᴰ j (jobs ms) → j .deadline ≤ lastPlanner p w ms .clock
+      → grainsHeld (recordIn (carried p w ms)) (j .slot) (grains (j .released)) (grains (j .deadline)) ≡ j .allowance
+  run-allowance ms j listed due =
+      rw (open-record q words long m some few ms) (allowance-held (length words) (opened m) (opened-sound m some few) (callsOf ms) j listed (rw (open-clock q words long m some few ms) at due))
+
+  -- No task held two cores in one grain, and no core had two holders.
+  pub run-one-core : (ms : List Made) (core core′ grain k : ℕ) → heldAt (recordIn (carried p w ms)) core grain ≡ suc k → heldAt (recordIn (carried p w ms)) core′ grain ≡ suc k → core ≡ core′
+  run-one-core ms = rw (open-record q words long m some few ms) (one-core (length words) (opened m) (opened-sound m some few) (callsOf ms))
+
+  pub run-one-holder : (ms : List Made) (core grain : ℕ) → holdersAt (recordIn (carried p w ms)) core grain ≤ 1
+  run-one-holder ms = rw (open-record q words long m some few ms) (one-holder (length words) (opened m) (opened-sound m some few) (callsOf ms))
+
+  -- None ran without a job: one whose release and deadline enclose the grain. Nor was anything held from the last clock on, or on a core that is not there.
+  pub run-no-job : (ms : List Made) (core grain k : ℕ) → heldAt (recordIn (carried p w ms)) core grain ≡ suc k
+      → JobDuring (jobs ms) k grain × (grain < grains (lastPlanner p w ms .clock)) × (core < m)
   unfolding opened
-  opened-no-job-no-run cs core grain k held =
-      let r = no-job-no-run words (opened m) (opened-sound m some few) cs core grain k held in
-      (⊎-elim (λ job. job) (λ l. absurd (opened-idle m k grain l)) (r .0), r .1, r .2)
+  run-no-job ms core grain k held =
+      let r = no-job-no-run (length words) (opened m) (opened-sound m some few) (callsOf ms) core grain k (rw (open-record q words long m some few ms) at held) in
+      (⊎-elim (λ job. job) (λ l. absurd (opened-idle m k grain l)) (r .0), rw (open-clock q words long m some few ms) (r .1), r .2)
 
-  pub opened-never-refused-1 : 4096 ≤ words → (cs : List Call) (o : Outcome) → List·Memᴰ o (outcomes words (opened m) cs) → o .answer .number ≡ 1 → ⊥
-  opened-never-refused-1 room = never-refused-1 words (opened m) room (opened-sound m some few)
+  -- No call is refused with 1.
+  pub run-never-1 : (ms : List Made) (l : Left) → List·Memᴰ l (carried p w ms) → l .answer .number ≡ 1 → ⊥
+  run-never-1 ms = carried-never-1 p w ms (open-wide q words long m some few) (open-ok q words long m some few)

@@ -1,8 +1,10 @@
 -- A history carried out by the planner's own contracts: what a call leaves is handed to the next.
-use mathlib.Core.List.{List, [], _∷_}
-use Prim.Native.Nat.{ℕ}
-use lib.ListN.{length}
+use mathlib.Core.List.{List, [], _∷_, _++_}
+use Prim.Native.Nat.{ℕ, zero, suc}
+use lib.ListN.{length, drop, getD}
+use Rattle.rules.specs.Wrap.{Segment}
 use Rattle.rules.specs.Calls.{Answer, Outcome, Call, declare, withdraw, release, advance}
+use Rattle.rules.specs.History.{Stamp, stamp}
 use Rattle.rules.specs.Words.{written}
 use Rattle.planner.specs.declared.Planner.{Planner}
 use Rattle.planner.specs.Held.{Left, called}
@@ -67,3 +69,18 @@ unfoldable pub buffersIn : List Made → List Outcome → List (List ℕ)
 buffersIn [] os = []
 buffersIn (m ∷ ms) [] = []
 buffersIn (m ∷ ms) (o ∷ os) = written (o .segments) (bufferOf m) ∷ buffersIn ms os
+
+-- the first so many segments of a buffer, four words each
+unfoldable pub segmentsIn : ℕ → List ℕ → List Segment
+segmentsIn zero buffer = []
+segmentsIn (suc n) buffer = record { core = getD buffer 0 0; slot = getD buffer 1 0; first = getD buffer 2 0; after = getD buffer 3 0 } ∷ segmentsIn n (drop 4 buffer)
+
+-- the record of what ran: from each buffer as many segments as the answer counts
+unfoldable pub recordIn : List Left → List Segment
+recordIn [] = []
+recordIn (l ∷ ls) = segmentsIn (l .answer .count) (l .buffer) ++ recordIn ls
+
+-- the task and release calls, refused ones too, with the planner's clock when they were made
+unfoldable pub stampedIn : Planner → List ℕ → List Made → List Stamp
+stampedIn p words [] = []
+stampedIn p words (m ∷ ms) = stamp (p .clock) (callOf m) ++ stampedIn (leftBy p words m .planner) (leftBy p words m .words) ms
