@@ -15,6 +15,7 @@ use Rattle.planner.specs.declared.Planner.{Planner}
 use Rattle.planner.specs.Held.{Left, opening}
 use Rattle.history.specs.Carried.{Made, callsOf, carried, lastPlanner, lastWords, recordIn, stampedIn}
 use Rattle.history.specs.Examples.{allRan}
+use Rattle.history.specs.Valid.{Valid}
 use Rattle.history.specs.Jobs.{Job, jobsOf, JobDuring, holdersAt, grainsHeld, stillOwed}
 use Rattle.history.proofs.Carried.{carried-cut, carried-never-1}
 use Rattle.history.proofs.Opened.{open-ok, open-wide, open-record, open-clock, open-stamps}
@@ -22,7 +23,7 @@ use Rattle.history.proofs.Examples.{examples-ran}
 use Rattle.history.proofs.Replay.{same-run}
 use Rattle.history.proofs.Record.{record-within, record-one, record-job, outcomes-never-one, opened-idle}
 use Rattle.history.proofs.Single.{record-single}
-use Rattle.history.proofs.Served.{due-held, due-owed, ahead-held}
+use Rattle.history.proofs.Served.{due-held, due-owed, ahead-held, held-bounded}
 
 module _ (words : ℕ) (t : Table) (sound : Sound t) where
   -- How time was cut into advances changes nothing: with the same task and release calls at the same ticks, and the same last clock, two
@@ -71,6 +72,21 @@ never-refused-1 words t = outcomes-never-one words t
 pub run-examples : (q : Planner) (words : List ℕ) → 4096 ≤ length words → allRan q words examples ≡ true
 run-examples = examples-ran
 
+-- From open, with 1 to 16 cores, the record is valid (history/specs/Valid.antt), with the jobs that were released.
+pub opened-valid : (words m : ℕ) → 1 ≤ m → m ≤ 16 → (cs : List Call) → Valid m (after words (opened m) cs .clock) (jobsOf words (opened m) cs) (recordOf words (opened m) cs)
+unfolding opened
+opened-valid words m some few cs =
+    let t = opened m in
+    let sound = opened-sound m some few in
+    record {
+      single = one-holder words t sound cs;
+      one-core = one-core words t sound cs;
+      job = λ core grain k held. ⊎-elim (λ during. during) (λ l. absurd (opened-idle m k grain l)) (no-job-no-run words t sound cs core grain k held .0);
+      within = λ core grain k held. let r = no-job-no-run words t sound cs core grain k held in (r .1, r .2);
+      served = allowance-held words t sound cs;
+      bounded = λ j. held-bounded words t cs j sound;
+    }
+
 -- The same of the calls as they run, from open with 1 to 16 cores: whatever planner q was there and whatever words are lent, if only 4,096. Each
 -- call's exit values are handed to the next, and the record is read from the segment buffers.
 module _ (q : Planner) (words : List ℕ) (long : 4096 ≤ length words) (m : ℕ) (some : 1 ≤ m) (few : m ≤ 16) where
@@ -94,26 +110,9 @@ module _ (q : Planner) (words : List ℕ) (long : 4096 ≤ length words) (m : �
       let held = carried-cut p w ms ns (open-wide q words long m some few) (open-ok q words long m some few) stamps last in
       ((λ core grain. rw (open-record q words long m some few ms, open-record q words long m some few ns) (cut .0 core grain)), held .0, held .1)
 
-  -- A job whose deadline is reached held exactly its allowance, from its release to its deadline.
-  pub run-allowance : (ms : List Made) (j : Job) → List·Memᴰ j (jobs ms) → j .deadline ≤ lastPlanner p w ms .clock
-      → grainsHeld (recordIn (carried p w ms)) (j .slot) (grains (j .released)) (grains (j .deadline)) ≡ j .allowance
-  run-allowance ms j listed due =
-      rw (open-record q words long m some few ms) (allowance-held (length words) (opened m) (opened-sound m some few) (callsOf ms) j listed (rw (open-clock q words long m some few ms) at due))
-
-  -- No task held two cores in one grain, and no core had two holders.
-  pub run-one-core : (ms : List Made) (core core′ grain k : ℕ) → heldAt (recordIn (carried p w ms)) core grain ≡ suc k → heldAt (recordIn (carried p w ms)) core′ grain ≡ suc k → core ≡ core′
-  run-one-core ms = rw (open-record q words long m some few ms) (one-core (length words) (opened m) (opened-sound m some few) (callsOf ms))
-
-  pub run-one-holder : (ms : List Made) (core grain : ℕ) → holdersAt (recordIn (carried p w ms)) core grain ≤ 1
-  run-one-holder ms = rw (open-record q words long m some few ms) (one-holder (length words) (opened m) (opened-sound m some few) (callsOf ms))
-
-  -- None ran without a job: one whose release and deadline enclose the grain. Nor was anything held from the last clock on, or on a core that is not there.
-  pub run-no-job : (ms : List Made) (core grain k : ℕ) → heldAt (recordIn (carried p w ms)) core grain ≡ suc k
-      → JobDuring (jobs ms) k grain × (grain < grains (lastPlanner p w ms .clock)) × (core < m)
-  unfolding opened
-  run-no-job ms core grain k held =
-      let r = no-job-no-run (length words) (opened m) (opened-sound m some few) (callsOf ms) core grain k (rw (open-record q words long m some few ms) at held) in
-      (⊎-elim (λ job. job) (λ l. absurd (opened-idle m k grain l)) (r .0), rw (open-clock q words long m some few ms) (r .1), r .2)
+  -- The record is valid: every job whose deadline is reached held exactly its allowance, no task held two cores in one grain, none ran without a job.
+  pub run-valid : (ms : List Made) → Valid m (lastPlanner p w ms .clock) (jobs ms) (recordIn (carried p w ms))
+  run-valid ms = rw (open-record q words long m some few ms, open-clock q words long m some few ms) (opened-valid (length words) m some few (callsOf ms))
 
   -- No call is refused with 1.
   pub run-never-1 : (ms : List Made) (l : Left) → List·Memᴰ l (carried p w ms) → l .answer .number ≡ 1 → ⊥

@@ -3,7 +3,7 @@
 use mathlib.Core.Path.{_≡_, refl, ap, sym, _∙_}
 use mathlib.Core.Logic.{_⊎_, inl, inr, ⊎-elim}
 use mathlib.Core.List.{List, [], _∷_, List·Memᴰ, List·Memᴰ·not-nil, List·Memᴰ·eq-of-singleton, List·Memᴰ·append-cases}
-use Prim.Native.Nat.{ℕ, _+_, _≤_, _<_}
+use Prim.Native.Nat.{ℕ, _+_, _≤_, _<_, min}
 use native.Mathlib.Omega.{arith}
 use borrow.Author.Tests.{ne-eqb}
 use Rattle.rules.specs.Station.{Table, grains, taskAt}
@@ -11,6 +11,7 @@ use Rattle.rules.specs.Release.{released}
 use Rattle.rules.specs.Sound.{Sound}
 use Rattle.rules.specs.Calls.{Call, declare, withdraw, release, advance, Outcome, refusal, withTask, done, accepted, step}
 use Rattle.rules.specs.History.{after, recordOf}
+use Rattle.rules.proofs.Floor.{by-lt}
 use Rattle.rules.proofs.Tasks.{none-pending, pending-some}
 use Rattle.rules.proofs.Kept.{step-sound}
 use Rattle.history.specs.Jobs.{Job, jobAt, jobsBy, jobsOf, grainsHeld, stillOwed}
@@ -173,3 +174,12 @@ module _ (words : ℕ) where
   pub ahead-held : (t : Table) (cs : List Call) (j : Job) → Sound t → List·Memᴰ j (jobsOf words t cs) → after words t cs .clock < j .deadline
       → grainsHeld (recordOf words t cs) (j .slot) (grains (j .released)) (grains (after words t cs .clock)) + stillOwed (after words t cs) (j .slot) ≡ j .allowance
   ahead-held t cs j sound m ahead = job-held t cs j (after words t cs .clock) (stillOwed (after words t cs) (j .slot)) sound m (inr (ahead, refl, refl))
+
+  -- in either case no more than its allowance so far
+  pub held-bounded : (t : Table) (cs : List Call) (j : Job) → Sound t → List·Memᴰ j (jobsOf words t cs)
+      → grainsHeld (recordOf words t cs) (j .slot) (grains (j .released)) (grains (min (j .deadline) (after words t cs .clock))) ≤ j .allowance
+  held-bounded t cs j sound m =
+      let now = after words t cs .clock in
+      by-lt now (j .deadline)
+      (λ ahead. let to : min (j .deadline) now ≡ now = omega arith in rw to (omega (arith, ahead-held t cs j sound m ahead)))
+      (λ due. let to : min (j .deadline) now ≡ j .deadline = omega arith in rw to (omega (arith, due-held t cs j sound m due)))

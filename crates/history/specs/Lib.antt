@@ -1,3 +1,4 @@
 pub mod Jobs
+pub mod Valid
 pub mod Carried
 pub mod Examples
