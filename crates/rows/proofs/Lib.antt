@@ -3,3 +3,4 @@ pub mod Moves
 pub mod Laying
 pub mod Cutting
 pub mod Line
+pub mod Marks

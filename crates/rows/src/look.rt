@@ -1,44 +1,92 @@
 use crate::SLOTS;
-use crate::word::larger;
 use crate::word::wide;
-ghost use mathlib.Core.Bool.{cond};
+use crate::word::wrapped;
+ghost use mathlib.Core.Bool.{true, cond, _&&_};
 ghost use mathlib.Core.Path.{_≡_};
-ghost use lib.Dec.{ltb};
+ghost use Prim.Native.Nat.{_≤_};
+ghost use lib.Dec.{leb, ltb, eqb};
 ghost use lib.ListN.{length};
-ghost use Rattle.rules.specs.Station.{slotCount, sum};
-ghost use Rattle.rules.specs.Words.{largest, strays};
+ghost use Rattle.rules.specs.Station.{slotCount, grains, longestPeriod, sum};
+ghost use Rattle.rows.specs.Row.{mark, shareFits, sharesFit, owedIn, hitsIn};
 
-// What a sound table asks of a row, in one pass: the shares added up, the largest, and those that must be zero added up.
+// The highest bit of a word.
+const MARK: u32 = 2147483648;
+
+// What a sound table asks of a row, in one pass: whether each share fits, the shares added up where they do, the rates of the
+// jobs that are due at the slice's end or after it, and how many are due at it.
 pub struct RowFacts {
+    pub fits: bool,
     pub sum: u64,
-    pub largest: u32,
-    pub strays: u64,
+    pub owed: u64,
+    pub hits: u64,
 }
 
-// A share whose slice ends after its job's deadline, or 0.
-fn stray(share: u32, due: u32, end: u32) -> u32
-    ensures { λ r. ⌜ r ≡ cond (ltb due end) share 0 ⌝ }
+// What a share may be at most: nothing where its slice ends after its job's deadline.
+fn bound(due: u32, end: u32, most: u32) -> u32
+    ensures { λ r. ⌜ r ≡ cond (ltb due end) 0 most ⌝ }
 {
-    if due < end { share } else { 0 }
+    if due < end { 0 } else { most }
 }
 
-// The row of a slice that ends `end` ticks after the plan start. `due` has each slot's deadline, in ticks after the plan start,
-// or 0 where no job is pending.
-pub fn look(row: &[u32], due: &[u32], end: u32) -> RowFacts
-    requires { ⌜ (length (now row) ≡ slotCount) × (length (now due) ≡ slotCount) ⌝ }
-    ensures { λ r. ⌜ (r .sum ≡ sum (now (row .entry))) × (r .largest ≡ largest (now (row .entry))) × (r .strays ≡ strays end (now (due .entry)) (now (row .entry))) ⌝ }
+// A word whose highest bit is set exactly where a share is more than its bound, without a test: where the difference wraps.
+fn excess(share: u32, most: u32) -> u32
+    requires { ⌜ most ≤ grains longestPeriod ⌝ }
+    ensures { λ r. ⌜ ltb r mark ≡ leb share most ⌝ }
 {
-    let mut sum: u64 = 0;
-    let mut largest: u32 = 0;
-    let mut strays: u64 = 0;
+    share | std::num::wrapping_sub_u32(most, share)
+}
+
+// The highest bit of either word.
+fn marked(over: u32, more: u32) -> u32
+    ensures { λ r. ⌜ ltb r mark ≡ (ltb over mark && ltb more mark) ⌝ }
+{
+    over | more
+}
+
+// The mark that some share does not fit, with one share more.
+fn with_share(over: u32, share: u32, due: u32, end: u32, most: u32) -> u32
+    requires { ⌜ most ≤ grains longestPeriod ⌝ }
+    ensures { λ r. ⌜ ltb r mark ≡ (ltb over mark && shareFits end most due share) ⌝ }
+{
+    let at_most = bound(due, end, most);
+    marked(over, excess(share, at_most))
+}
+
+// The rate of a job that is due at the end or after it, or 0.
+pub fn rate_due(rate: u32, due: u32, end: u32) -> u32
+    ensures { λ r. ⌜ (r ≡ cond (leb end due) rate 0) × (r ≤ rate) ⌝ }
+{
+    if end <= due { rate } else { 0 }
+}
+
+// 1 for a job that is due at the end.
+pub fn hit(due: u32, end: u32) -> u32
+    ensures { λ r. ⌜ (r ≡ cond (eqb end due) 1 0) × (r ≤ 1) ⌝ }
+{
+    if end == due { 1 } else { 0 }
+}
+
+// The row of a slice that ends `end` ticks after the plan start and has `most` grains. `due` has each slot's deadline, in ticks
+// after the plan start, or 0 where no job is pending. All words have 32 bits, so that the compiler takes four slots at once:
+// where each share fits, the sum has not wrapped.
+pub fn look(row: &[u32], due: &[u32], rates: &[u32], end: u32, most: u32) -> RowFacts
+    requires { ⌜ (length (now row) ≡ slotCount) × (length (now due) ≡ slotCount) × (length (now rates) ≡ slotCount) × (sum (now rates) ≤ 4294967295) × (most ≤ grains longestPeriod) ⌝ }
+    ensures { λ r. ⌜ (r .fits ≡ sharesFit end most (now (due .entry)) (now (row .entry))) × (r .fits ≡ true → r .sum ≡ sum (now (row .entry))) × (r .owed ≡ owedIn end (now (due .entry)) (now (rates .entry))) × (r .hits ≡ hitsIn end (now (due .entry))) × (r .owed ≤ 4294967295) × (r .hits ≤ slotCount) ⌝ }
+{
+    let mut over: u32 = 0;
+    let mut sum: u32 = 0;
+    let mut owed: u32 = 0;
+    let mut hits: u32 = 0;
     for i in 0..SLOTS {
-        sum += wide(row[i]);
-        largest = larger(largest, row[i]);
-        strays += wide(stray(row[i], due[i], end));
+        over = with_share(over, row[i], due[i], end, most);
+        sum = wrapped(sum, row[i]);
+        owed += rate_due(rates[i], due[i], end);
+        hits += hit(due[i], end);
     }
     RowFacts {
-        sum: sum,
-        largest: largest,
-        strays: strays,
+        fits: over < MARK,
+        sum: wide(sum),
+        owed: wide(owed),
+        hits: wide(hits),
     }
 }

@@ -1,6 +1,6 @@
 // Casts and branches stand here and not in the loops, so that a loop is straight code and asks for few facts.
 ghost use mathlib.Core.Path.{_≡_};
-ghost use Prim.Native.Nat.{min, max, _+_, _≤_};
+ghost use Prim.Native.Nat.{min, _+_, _%_, _≤_};
 
 // The bound is stated for the loops that add up.
 pub fn wide(share: u32) -> u64
@@ -16,12 +16,6 @@ pub fn narrow(grains: u64) -> u32
     grains as u32
 }
 
-pub fn larger(a: u32, b: u32) -> u32
-    ensures { λ r. ⌜ r ≡ max a b ⌝ }
-{
-    if a < b { b } else { a }
-}
-
 pub fn smaller(a: u64, b: u64) -> u64
     ensures { λ r. ⌜ r ≡ min a b ⌝ }
 {
@@ -33,4 +27,18 @@ pub fn joined(a: u32, b: u32) -> u32
     ensures { λ r. ⌜ (r ≡ 0 → a + b ≡ 0) × (a + b ≡ 0 → r ≡ 0) ⌝ }
 {
     a | b
+}
+
+// Four words in one.
+pub fn joined_four(a: u32, b: u32, c: u32, d: u32) -> u32
+    ensures { λ r. ⌜ (r ≡ 0 → a + b + (c + d) ≡ 0) × (a + b + (c + d) ≡ 0 → r ≡ 0) ⌝ }
+{
+    joined(joined(a, b), joined(c, d))
+}
+
+// The low 32 bits of a sum.
+pub fn wrapped(a: u32, b: u32) -> u32
+    ensures { λ r. ⌜ r ≡ (a + b) % 4294967296 ⌝ }
+{
+    std::num::wrapping_add_u32(a, b)
 }

@@ -1,19 +1,20 @@
 -- The word of the slots in use, read from its lowest bit on: a bit for the first slot, and half the word for the others.
 -- A word is a bit and twice a word exactly if its rest and its half are those.
 use mathlib.Core.Path.{_≡_}
-use mathlib.Core.Bool.{Bool, true, false, _&&_, and-eq-true-iff, and-assoc, and-true}
+use mathlib.Core.Bool.{Bool, true, false, _&&_, and-eq-true-iff, and-true, and-false}
 use mathlib.Core.List.{List}
 use Prim.Native.Nat.{ℕ, suc, _+_, _*_, _/_, _%_, _≤_, _<_}
 use native.Mathlib.Numerals.{add-one}
 use native.Mathlib.Omega.{arith}
-use borrow.Author.Tests.{eq-eqb, eqb-true}
+use borrow.Author.Tests.{lt-ltb, le-ltb, eq-eqb, ne-eqb, eqb-true}
 use lib.Dec.{eqb}
 use lib.ListN.{length, drop, getD, drop-of-length-le}
 use lib.Seq.{drop-cons}
 use Rattle.rules.specs.declared.Task.{Task}
-use Rattle.rules.specs.Station.{inUse}
-use Rattle.rules.specs.Sound.{eachTask}
-use Rattle.sound.specs.Lent.{flag, usedOf, taskTest}
+use Rattle.rules.specs.Station.{inUse, pending}
+use Rattle.rules.specs.Sound.{every, eachTask, lawfulTest, inTimeTest, unusedTest}
+use Rattle.rules.proofs.Floor.{by-lt, by-bool}
+use Rattle.sound.specs.Lent.{flag, usedOf, freeTest, taskTest}
 use Rattle.sound.proofs.Tests.{same-bool, cross}
 
 halves : (n f m : ℕ) → f ≤ 1 → eqb n (f + 2 * m) ≡ (eqb (n % 2) f && eqb (n / 2) m)
@@ -27,22 +28,37 @@ unfolding flag
 flag-bit true = omega arith
 flag-bit false = omega arith
 
+-- a slot by its bit: one that is not in use holds zeros, and one that is in use has a lawful task and a job in time
+pub free-task : (clock start : ℕ) (k : Task) → freeTest k ≡ (eqb 0 (flag (inUse k)) && taskTest clock start k)
+unfolding freeTest taskTest lawfulTest inTimeTest unusedTest inUse pending flag every
+free-task clock start k =
+    by-lt 0 (k .period)
+    (λ used. rw (lt-ltb 0 (k .period) used, ne-eqb (k .period) 0 (λ q. omega arith)))
+    (λ none. rw (le-ltb 0 (k .period) none, eq-eqb (k .period) 0 (omega arith))
+    (by-lt 0 (k .deadline)
+    (λ job. rw (ne-eqb (k .deadline) 0 (λ q. omega arith)) (simp and-false))
+    (λ idle. rw (le-ltb 0 (k .deadline) idle))))
+
+pub used-task : (clock start : ℕ) (k : Task) → ((inUse k && lawfulTest k) && inTimeTest clock start k) ≡ (eqb 1 (flag (inUse k)) && taskTest clock start k)
+unfolding taskTest unusedTest flag
+used-task clock start k = by-bool (inUse k) (λ is. rw is (simp and-true)) (λ none. rw none)
+
 -- the word and the tasks from slot i on
 unfoldable pub agree : ℕ → ℕ → ℕ → List Task → Bool
 agree clock start left ks = eqb left (usedOf ks) && eachTask (taskTest clock start) ks
 
-pub agree-next : (clock start left : ℕ) (tasks : List Task) (i : ℕ) (none : Task) (ok : Bool) → i < length tasks
+pub agree-next : (clock start left : ℕ) (tasks : List Task) (i : ℕ) (none : Task) → i < length tasks
     → let k = getD tasks i none in
-    ((ok && (eqb (left % 2) (flag (inUse k)) && taskTest clock start k)) && agree clock start (left / 2) (drop (i + 1) tasks)) ≡ (ok && agree clock start left (drop i tasks))
+    agree clock start left (drop i tasks) ≡ ((eqb (left % 2) (flag (inUse k)) && taskTest clock start k) && agree clock start (left / 2) (drop (i + 1) tasks))
 unfolding agree usedOf eachTask
-agree-next clock start left tasks i none ok h =
+agree-next clock start left tasks i none h =
     let k = getD tasks i none in
     let later = drop (suc i) tasks in
     let bit = eqb (left % 2) (flag (inUse k)) in
     let half = eqb (left / 2) (usedOf later) in
     let one = taskTest clock start k in
     let all = eachTask (taskTest clock start) later in
-    rw (add-one, drop-cons tasks i none h, halves left (flag (inUse k)) (usedOf later) (flag-bit (inUse k)), cross bit half one all) (and-assoc ok (bit && one) (half && all))
+    rw (add-one, drop-cons tasks i none h, halves left (flag (inUse k)) (usedOf later) (flag-bit (inUse k))) (cross bit half one all)
 
 pub agree-done : (clock start left : ℕ) (tasks : List Task) (i : ℕ) → length tasks ≤ i → agree clock start left (drop i tasks) ≡ eqb left 0
 unfolding agree usedOf eachTask

@@ -12,10 +12,11 @@ use Rattle.rules.specs.declared.Task.{Task}
 use Rattle.rules.specs.Station.{Slice, grains, lastTick, mostCores, rowCount, shareWords, pending, rates, sum}
 use Rattle.rules.specs.Slices.{isEnd}
 use Rattle.rules.specs.Sound.{Each, Columns, every, eachTask, eachSlice, lawfulTest, inTimeTest, unusedTest, sliceTest, isDeadline, owed, isSound}
-use Rattle.rules.specs.Words.{largest, strays, rowsOf, slicesOf}
+use Rattle.rules.specs.Words.{rowsOf, slicesOf}
+use Rattle.rows.specs.Row.{sharesFit, owedIn, hitsIn}
 use Rattle.rules.proofs.Floor.{by-lt, by-eq, by-bool}
 use Rattle.sound.specs.Lent.{usedOf, taskTest, tableAt, isSoundAt}
-use Rattle.sound.specs.Due.{duesOf, ratesOf, owedIn, hitsIn, within, rowTest, sliceCheck, allHits, planTest, scalarsTest}
+use Rattle.sound.specs.Due.{duesOf, ratesOf, within, rowTest, sliceCheck, allHits, planTest, scalarsTest}
 use Rattle.sound.proofs.Tests.{same-bool, cross}
 use Rattle.rules.proofs.Sound.{every-to, every-from}
 use Rattle.sound.proofs.Near.{AllNear, tasks-near, owed-all, owed-from, hits-from, deadline-soon, shares-from}
@@ -42,13 +43,11 @@ columns lo (suc n) [] words h = tt
 columns lo (suc n) (d ∷ ds) words h = (simp length-take (omega arith), columns d n ds (drop 64 words) (simp length-drop (omega arith)))
 
 -- the tests of a row in the code's order, and in the order of the clauses
-order : (a b c : Bool) → (a && (b && (c && true))) ≡ (c && ((a && b) && true))
-order true true true = refl
-order true true false = refl
-order true false true = refl
-order true false false = refl
-order false b true = refl
-order false b false = refl
+order : (a b : Bool) → (a && (b && (true && true))) ≡ (b && (a && true))
+order true true = refl
+order true false = refl
+order false true = refl
+order false false = refl
 
 module _ (start : ℕ) (ks : List Task) (near : AllNear start ks) where
   slice-same : (lo : ℕ) (s : Slice) → start ≤ lo → length (s .shares) ≡ 64 → sliceCheck start (duesOf start ks) (ratesOf ks) lo s ≡ sliceTest ks lo s
@@ -62,7 +61,7 @@ module _ (start : ℕ) (ks : List Task) (near : AllNear start ks) where
       (by-bool (isDeadline e ks)
       (λ is.
       let soon = deadline-soon start e after ks near is in
-      rw (is, le-leb (e - start) 60000 (omega arith), le-leb (e - lo) 60000 (omega arith)) (order (leb (largest (s .shares)) (grains (e - lo))) (eqb (strays (e - start) (duesOf start ks) (s .shares)) 0) (leb (sum (s .shares)) ((e - lo) * owed e ks))))
+      rw (is, le-leb (e - start) 60000 (omega arith), le-leb (e - lo) 60000 (omega arith)) (order (sharesFit (e - start) (grains (e - lo)) (duesOf start ks) (s .shares)) (leb (sum (s .shares)) ((e - lo) * owed e ks))))
       (λ none. rw none (simp and-false))))
       (λ flat. rw (le-ltb lo e flat, eq-eqb (length (s .shares)) 64 wide))
 

@@ -1,16 +1,15 @@
 -- Deadlines and rates side by side: the lists are as long as the tasks and have each task's number in its place.
--- What is owed and what is due at an end are read one slot a turn: each law is the definition's own clause, at `drop i`.
+-- At the plan start all rates are owed.
 use mathlib.Core.Path.{_≡_, refl, ap}
-use mathlib.Core.Bool.{cond}
 use mathlib.Core.List.{List, [], _∷_}
-use Prim.Native.Nat.{ℕ, zero, suc, _+_, _≤_, _<_}
-use native.Mathlib.Numerals.{add-one}
+use Prim.Native.Nat.{ℕ, zero, suc, _+_, _<_}
 use native.Mathlib.Omega.{arith}
-use lib.Dec.{leb, eqb}
-use lib.ListN.{length, drop, getD, drop-of-length-le}
-use lib.Seq.{drop-cons}
+use borrow.Author.Tests.{le-leb}
+use lib.ListN.{length, getD}
 use Rattle.rules.specs.declared.Task.{Task}
-use Rattle.sound.specs.Due.{dueFrom, duesOf, ratesOf, owedIn, hitsIn}
+use Rattle.rules.specs.Station.{sum}
+use Rattle.rows.specs.Row.{owedIn}
+use Rattle.sound.specs.Due.{dueFrom, duesOf, ratesOf}
 
 pub dues-long : (start : ℕ) (ks : List Task) → length (duesOf start ks) ≡ length ks
 unfolding duesOf
@@ -34,19 +33,10 @@ rate-at [] i none h = omega arith
 rate-at (k ∷ ks) zero none h = refl
 rate-at (k ∷ ks) (suc i) none h = rate-at ks i none (omega arith)
 
-pub owed-next : (end : ℕ) (due rates : List ℕ) (i : ℕ) → i < length due → i < length rates
-    → owedIn end (drop i due) (drop i rates) ≡ cond (leb end (getD due i 0)) (getD rates i 0) 0 + owedIn end (drop (i + 1) due) (drop (i + 1) rates)
-unfolding owedIn
-owed-next end due rates i d r = rw (add-one, drop-cons rates i 0 r, drop-cons due i 0 d)
-
-pub owed-done : (end : ℕ) (due rates : List ℕ) (i : ℕ) → length due ≤ i → owedIn end (drop i due) (drop i rates) ≡ 0
-unfolding owedIn
-owed-done end due rates i h = rw (drop-of-length-le due h)
-
-pub hits-next : (end : ℕ) (due : List ℕ) (i : ℕ) → i < length due → hitsIn end (drop i due) ≡ cond (eqb end (getD due i 0)) 1 0 + hitsIn end (drop (i + 1) due)
-unfolding hitsIn
-hits-next end due i h = rw (add-one, drop-cons due i 0)
-
-pub hits-done : (end : ℕ) (due : List ℕ) (i : ℕ) → length due ≤ i → hitsIn end (drop i due) ≡ 0
-unfolding hitsIn
-hits-done end due i h = rw (drop-of-length-le due h)
+-- at the plan start all rates are owed
+pub owed-sum : (due rates : List ℕ) → length due ≡ length rates → owedIn 0 due rates ≡ sum rates
+unfolding owedIn sum
+owed-sum [] [] h = refl
+owed-sum [] (r ∷ rs) h = omega arith
+owed-sum (d ∷ ds) [] h = omega arith
+owed-sum (d ∷ ds) (r ∷ rs) h = rw (le-leb 0 d (omega arith)) (ap (λ n. r + n) (owed-sum ds rs (omega arith)))

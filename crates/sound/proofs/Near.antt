@@ -1,7 +1,7 @@
 -- Deadlines counted from the plan start say of a later tick what the deadlines themselves say.
 -- A task that is sound by itself has no job, or one that is due after the plan start and within the longest period of it.
 use mathlib.Core.Path.{_≡_, refl, ap}
-use mathlib.Core.Bool.{Bool, true, false, cond, _&&_, _||_, and-eq-true-iff}
+use mathlib.Core.Bool.{Bool, true, false, cond, _&&_, _||_, and-eq-true-iff, and-true, and-false, or-true}
 use mathlib.Core.List.{List, [], _∷_}
 use Prim.Native.Nat.{ℕ, _+_, _-_, _≤_, _<_}
 use native.Mathlib.Nat.{zero-add}
@@ -11,11 +11,10 @@ use lib.Dec.{leb, ltb, eqb}
 use Rattle.rules.specs.declared.Task.{Task}
 use Rattle.rules.specs.Station.{grains, free, inUse, pending, rates}
 use Rattle.rules.specs.Sound.{every, eachTask, eachShare, lawfulTest, inTimeTest, unusedTest, shareTest, isDeadline, owed}
-use Rattle.rules.specs.Words.{largest, strays}
 use Rattle.rules.proofs.Floor.{by-lt, by-eq, by-bool}
 use Rattle.sound.specs.Lent.{taskTest}
-use Rattle.sound.specs.Due.{dueFrom, duesOf, ratesOf, owedIn, hitsIn}
-use Rattle.sound.proofs.Tests.{sum-zero, max-small, cross}
+use Rattle.rows.specs.Row.{shareFits, sharesFit, owedIn, hitsIn}
+use Rattle.sound.specs.Due.{dueFrom, duesOf, ratesOf}
 use Rattle.rules.proofs.Sound.{every-to, or-to, then-to}
 
 pub record Near (start : ℕ) (k : Task) : Type 0 where
@@ -44,16 +43,9 @@ module _ (clock start : ℕ) (order : start ≤ clock) where
   task-near : (k : Task) → taskTest clock start k ≡ true → Near start k
   unfolding dueFrom
   task-near k h =
-      let d = k .deadline in
-      by-lt 0 d
-      (λ job.
-      let at = job-near k h job in
-      record {
-        due = rw (lt-ltb start d (at .0), le-leb (d - start) 60000 (omega arith));
-        job = λ j. at .0;
-        soon = at .1;
-      })
-      (λ none. record { due = rw (le-ltb start d (omega arith)) (omega arith); job = λ j. omega arith; soon = omega arith })
+      by-lt 0 (k .deadline)
+      (λ job. let at = job-near k h job in record { due = omega arith; job = λ j. at .0; soon = at .1 })
+      (λ none. record { due = omega arith; job = λ j. omega arith; soon = omega arith })
 
   pub tasks-near : (ks : List Task) → eachTask (taskTest clock start) ks ≡ true → AllNear start ks
   unfolding eachTask
@@ -81,16 +73,20 @@ some : (b : Bool) (n : ℕ) → ltb 0 (cond b 1 0 + n) ≡ (b || ltb 0 n)
 some true n = lt-ltb 0 (1 + n) (omega arith)
 some false n = rw zero-add
 
-absorb : (a b c : Bool) → (a && ((b || c) && (c && true))) ≡ (a && c)
-absorb true true true = refl
-absorb true true false = refl
-absorb true false true = refl
-absorb true false false = refl
-absorb false b c = refl
+-- a share that is at most 0 is 0, and at most anything
+none-fits : (s m : ℕ) (b : Bool) → (leb s m && ((b || eqb s 0) && (eqb s 0 && true))) ≡ leb s 0
+none-fits s m b =
+    by-lt 0 s
+    (λ some. rw (lt-leb s 0 some, ne-eqb s 0 (λ q. omega arith)) (simp (and-false)))
+    (λ none. rw (le-leb s 0 none, le-leb s m (omega arith), eq-eqb s 0 (omega arith), or-true b))
 
 free-near : (start : ℕ) → Near start free
 unfolding free dueFrom
-free-near start = record { due = rw (le-ltb start 0 (omega arith)) (omega arith); job = λ j. omega arith; soon = omega arith }
+free-near start = record { due = omega arith; job = λ j. omega arith; soon = omega arith }
+
+free-due : (start : ℕ) → dueFrom start (free .deadline) ≡ 0
+unfolding free dueFrom
+free-due start = omega arith
 
 -- an end after the plan start
 module _ (start e : ℕ) (after : start < e) where
@@ -112,27 +108,18 @@ module _ (start e : ℕ) (after : start < e) where
       (λ q. let is = eqb-true e (k .deadline) q in let soon = n .0 .soon in omega arith)
       (λ ne. deadline-soon ks (n .1) (or-to _ _ h ne))
 
-  share-from : (lo : ℕ) (k : Task) (s : ℕ) → Near start k → shareTest lo e k s ≡ (leb s (grains (e - lo)) && eqb (cond (ltb (dueFrom start (k .deadline)) (e - start)) s 0) 0)
-  unfolding shareTest every pending
+  share-from : (lo : ℕ) (k : Task) (s : ℕ) → Near start k → shareTest lo e k s ≡ shareFits (e - start) (grains (e - lo)) (dueFrom start (k .deadline)) s
+  unfolding shareTest every pending shareFits
   share-from lo k s n =
       let d = k .deadline in
       rw (n .due, ltb-from start e d after)
       (by-lt d e
-      (λ l. rw (lt-ltb d e l, lt-leb e d l) (absorb (leb s (grains (e - lo))) (ltb 0 d) (eqb s 0)))
-      (λ g. rw (le-ltb d e g, le-leb e d g, lt-ltb 0 d (omega arith))))
+      (λ l. rw (lt-ltb d e l, lt-leb e d l) (none-fits s (grains (e - lo)) (ltb 0 d)))
+      (λ g. rw (le-ltb d e g, le-leb e d g, lt-ltb 0 d (omega arith)) (and-true _)))
 
-  free-over : ltb (dueFrom start (free .deadline)) (e - start) ≡ true
-  unfolding free
-  free-over = rw (free-near start .due) (lt-ltb (0 - start) (e - start) (omega arith))
-
-  pub shares-from : (lo : ℕ) (ks : List Task) (row : List ℕ) → AllNear start ks
-      → eachShare (shareTest lo e) ks row ≡ (leb (largest row) (grains (e - lo)) && eqb (strays (e - start) (duesOf start ks) row) 0)
-  unfolding eachShare largest strays duesOf
-  shares-from lo ks [] n = rw (le-leb 0 (grains (e - lo)) (omega arith))
-  shares-from lo [] (s ∷ ss) n =
-      rw (share-from lo free s (free-near start), free-over, shares-from lo [] ss n, max-small s (largest ss) (grains (e - lo)), sum-zero s (strays (e - start) [] ss))
-      (cross (leb s (grains (e - lo))) (eqb s 0) _ _)
-  shares-from lo (k ∷ ks) (s ∷ ss) n =
-      let here = cond (ltb (dueFrom start (k .deadline)) (e - start)) s 0 in
-      rw (share-from lo k s (n .0), shares-from lo ks ss (n .1), max-small s (largest ss) (grains (e - lo)), sum-zero here (strays (e - start) (duesOf start ks) ss))
-      (cross (leb s (grains (e - lo))) (eqb here 0) _ _)
+  pub shares-from : (lo : ℕ) (ks : List Task) (row : List ℕ) → AllNear start ks → eachShare (shareTest lo e) ks row ≡ sharesFit (e - start) (grains (e - lo)) (duesOf start ks) row
+  unfolding eachShare sharesFit duesOf
+  shares-from lo [] [] n = refl
+  shares-from lo (k ∷ ks) [] n = refl
+  shares-from lo [] (s ∷ ss) n = rw (share-from lo free s (free-near start), free-due start, shares-from lo [] ss n)
+  shares-from lo (k ∷ ks) (s ∷ ss) n = rw (share-from lo k s (n .0), shares-from lo ks ss (n .1))

@@ -1,7 +1,7 @@
 -- Loops over slices and boundaries: what is left to look at, from boundary k on, loses one slice a turn.
 -- Slice k is boundary k with row k, as long as there are boundaries.
-use mathlib.Core.Path.{_≡_}
-use mathlib.Core.Bool.{Bool, false, _&&_, and-assoc, and-true}
+use mathlib.Core.Path.{_≡_, refl}
+use mathlib.Core.Bool.{Bool, true, false, _&&_, and-assoc, and-true}
 use mathlib.Core.List.{List, [], _∷_}
 use Prim.Native.Nat.{ℕ, _+_, _≤_, _<_}
 use native.Mathlib.Numerals.{add-one}
@@ -10,11 +10,11 @@ use lib.Dec.{eqb}
 use lib.ListN.{length, take, drop, getD, length-take, drop-of-length-le}
 use lib.Seq.{drop-cons, getD-take}
 use Rattle.rules.specs.Station.{Slice, rowCount, sum}
-use Rattle.rules.specs.Sound.{eachSlice}
+use Rattle.rules.specs.Sound.{every, eachSlice}
 use Rattle.rules.specs.Words.{rowsOf, rowAt, slicesOf}
 use Rattle.rows.proofs.Folds.{sum-next, sum-done}
 use Rattle.table.proofs.Rowed.{length-rowsOf}
-use Rattle.sound.specs.Due.{sliceAt, sliceHits, allHits, within, sliceCheck}
+use Rattle.sound.specs.Due.{sliceAt, sliceHits, allHits, within, rowTest, sliceCheck}
 use Rattle.sound.proofs.Tests.{sum-zero}
 
 -- the slices from boundary k on, `count` in all
@@ -60,6 +60,12 @@ pub not-within : (start : ℕ) (due rates : List ℕ) (lo end : ℕ) (row : List
     → (false ≡ sliceCheck start due rates lo (sliceAt end row)) × (0 ≡ sliceHits start due lo (sliceAt end row))
 unfolding sliceCheck sliceHits sliceAt
 not-within start due rates lo end row h = (rw h, rw h)
+
+-- the sum of a row counts only where each share fits
+pub sum-counts : (fits : Bool) (a b long owed hits : ℕ) → (fits ≡ true → a ≡ b) → rowTest fits a long owed hits ≡ rowTest fits b long owed hits
+unfolding rowTest every
+sum-counts true a b long owed hits h = rw (h refl)
+sum-counts false a b long owed hits h = refl
 
 -- a sum is zero where all words are
 pub zero-next : (ok : Bool) (words : List ℕ) (k : ℕ) → k < length words → ((ok && eqb (getD words k 0) 0) && eqb (sum (drop (k + 1) words)) 0) ≡ (ok && eqb (sum (drop k words)) 0)

@@ -1,11 +1,11 @@
--- Tests joined: what code leaves in a flag for `a && b`, and tests of a sum or of the larger of two.
+-- Tests joined: what code leaves in a flag for `a && b`, and tests of a sum.
 -- Each law is a table of truth values, or goes by the facts that the tests stand for.
 use mathlib.Core.Path.{_≡_, refl, sym, _∙_}
 use mathlib.Core.Bool.{Bool, true, false, _&&_, and-eq-true-iff, true≢false}
-use Prim.Native.Nat.{ℕ, _+_, max}
+use Prim.Native.Nat.{ℕ, _+_}
 use native.Mathlib.Omega.{arith}
-use borrow.Author.Tests.{eq-eqb, eqb-true, le-leb, leb-true}
-use lib.Dec.{leb, eqb}
+use borrow.Author.Tests.{eq-eqb, eqb-true}
+use lib.Dec.{eqb}
 
 -- code computes `a && b` by a branch on a, which leaves b or a
 pub and-then : (a b : Bool) {t : Bool} → a ≡ true → t ≡ b → t ≡ (a && b)
@@ -32,15 +32,9 @@ same-bool false false f g = refl
 pub not-both : {b : Bool} → b ≡ true → b ≡ false → ⊥
 not-both holds fails = true≢false (sym holds ∙ fails)
 
--- numbers that add up to zero, or whose larger one is small
+-- numbers that add up to zero
 pub sum-zero : (a b : ℕ) → eqb (a + b) 0 ≡ (eqb a 0 && eqb b 0)
 sum-zero a b =
     same-bool _ _
     (λ is. let e = eqb-true (a + b) 0 is in and-eq-true-iff _ _ .1 (eq-eqb a 0 (omega arith), eq-eqb b 0 (omega arith)))
     (λ h. let f = and-eq-true-iff (eqb a 0) (eqb b 0) .0 h in let x = eqb-true a 0 (f .0) in let y = eqb-true b 0 (f .1) in eq-eqb (a + b) 0 (omega arith))
-
-pub max-small : (a b m : ℕ) → leb (max a b) m ≡ (leb a m && leb b m)
-max-small a b m =
-    same-bool _ _
-    (λ is. let e = leb-true (max a b) m is in and-eq-true-iff _ _ .1 (le-leb a m (omega arith), le-leb b m (omega arith)))
-    (λ h. let f = and-eq-true-iff (leb a m) (leb b m) .0 h in let x = leb-true a m (f .0) in let y = leb-true b m (f .1) in le-leb (max a b) m (omega arith))

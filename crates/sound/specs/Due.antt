@@ -1,17 +1,18 @@
 -- Deadlines counted from the plan start, and rates, side by side as lists of 64 numbers.
 use mathlib.Core.Bool.{Bool, cond, _&&_, _||_}
 use mathlib.Core.List.{List, [], _∷_}
-use Prim.Native.Nat.{ℕ, _+_, _-_, _*_}
+use Prim.Native.Nat.{ℕ, _+_, _-_, _*_, _%_}
 use lib.Dec.{leb, ltb, eqb}
 use lib.ListN.{take, drop}
 use Rattle.rules.specs.declared.Task.{Task}
 use Rattle.rules.specs.Station.{Slice, grains, lastTick, longestPeriod, mostCores, slotCount, rowCount, shareWords, sum}
 use Rattle.rules.specs.Sound.{every, eachSlice}
-use Rattle.rules.specs.Words.{largest, strays, rowsOf, slicesOf}
+use Rattle.rules.specs.Words.{rowsOf, slicesOf}
+use Rattle.rows.specs.Row.{sharesFit, owedIn, hitsIn}
 
--- a deadline in ticks after the plan start, where it lies within the longest period after it; otherwise 0
+-- a deadline in ticks after the plan start, or 0 where it is not after it, in 32 bits: a sound job is due within a period
 unfoldable pub dueFrom : ℕ → ℕ → ℕ
-dueFrom start deadline = cond (ltb start deadline && leb (deadline - start) longestPeriod) (deadline - start) 0
+dueFrom start deadline = (deadline - start) % 4294967296
 
 unfoldable pub duesOf : ℕ → List Task → List ℕ
 duesOf start [] = []
@@ -21,17 +22,6 @@ unfoldable pub ratesOf : List Task → List ℕ
 ratesOf [] = []
 ratesOf (k ∷ ks) = k .rate ∷ ratesOf ks
 
--- the rates of the jobs that are due at the end or after it
-unfoldable pub owedIn : ℕ → List ℕ → List ℕ → ℕ
-owedIn end [] rates = 0
-owedIn end (d ∷ ds) [] = 0
-owedIn end (d ∷ ds) (r ∷ rs) = cond (leb end d) r 0 + owedIn end ds rs
-
--- how many jobs are due at the end
-unfoldable pub hitsIn : ℕ → List ℕ → ℕ
-hitsIn end [] = 0
-hitsIn end (d ∷ ds) = cond (eqb end d) 1 0 + hitsIn end ds
-
 -- a slice from lo to `end` that ends within the longest period after the plan start and is no longer than it. In a sound table
 -- each end is a deadline and no slice begins before the plan start, so only the first test says something; the others bound the rest
 unfoldable pub within : ℕ → ℕ → ℕ → Bool
@@ -40,18 +30,17 @@ within start lo end = ltb lo end && (leb (end - start) longestPeriod && leb (end
 unfoldable pub sliceAt : ℕ → List ℕ → Slice
 sliceAt end row = record { end = end; shares = row }
 
--- what is asked of a slice that is `long` ticks long: of its row's largest share, of its shares that must be zero and of all of them,
--- added up, beside the rates that are owed and the number of jobs that are due at its end
-unfoldable pub rowTest : ℕ → ℕ → ℕ → ℕ → ℕ → ℕ → Bool
-rowTest most stray total long owed hits = every (leb most (grains long) ∷ eqb stray 0 ∷ leb total (long * owed) ∷ ltb 0 hits ∷ [])
+-- what is asked of a slice that is `long` ticks long: whether each share fits, and of all of them, added up, beside the rates that are
+-- owed and the number of jobs that are due at its end
+unfoldable pub rowTest : Bool → ℕ → ℕ → ℕ → ℕ → Bool
+rowTest fits total long owed hits = every (fits ∷ leb total (long * owed) ∷ ltb 0 hits ∷ [])
 
--- the clauses of a sound table that speak of one slice, by what one pass over its row and one over the deadlines give
+-- the clauses of a sound table that speak of one slice, by what one pass over its row gives
 unfoldable pub sliceCheck : ℕ → List ℕ → List ℕ → ℕ → Slice → Bool
 sliceCheck start due rates lo s =
     within start lo (s .end)
     && rowTest
-    (largest (s .shares))
-    (strays (s .end - start) due (s .shares))
+    (sharesFit (s .end - start) (grains (s .end - lo)) due (s .shares))
     (sum (s .shares))
     (s .end - lo)
     (owedIn (s .end - start) due rates)

@@ -18,6 +18,10 @@ unfoldable pub usedOf : List Task → ℕ
 usedOf [] = 0
 usedOf (k ∷ ks) = flag (inUse k) + 2 * usedOf ks
 
+-- "Slots not in use hold zeros."
+unfoldable pub freeTest : Task → Bool
+freeTest k = every (eqb (k .period) 0 ∷ eqb (k .cost) 0 ∷ eqb (k .rate) 0 ∷ eqb (k .deadline) 0 ∷ [])
+
 -- the clauses of a sound table that speak of one task alone
 unfoldable pub taskTest : ℕ → ℕ → Task → Bool
 taskTest clock start k = lawfulTest k && (inTimeTest clock start k && unusedTest k)

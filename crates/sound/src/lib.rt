@@ -1,7 +1,7 @@
 // Whether a table is sound: each clause of document 01's paragraph, for any values in the planner's fields and any words lent.
 // The clauses that speak of tasks are tried first; what they bound makes the rest safe to compute.
-pub mod task; // task.rt: the clauses about each task
-pub mod due; // due.rt: deadlines and rates side by side
+pub mod task; // task.rt: the clauses about each task, deadlines and rates side by side
+pub mod due; // due.rt: what the deadlines and rates say at an end
 pub mod slice; // slice.rt: the clauses about each slice
 pub mod whole; // whole.rt: all clauses
 

@@ -1,15 +1,13 @@
 use crate::GRAINS;
 use crate::LONGEST_PERIOD;
-use crate::due::DueFacts;
-use crate::due::due_facts;
+use crate::task::since;
 use rows::look::RowFacts;
 use rows::word::narrow;
-use rows::word::wide;
 use table::ROWS;
 use table::row::row_look;
 ghost use mathlib.Core.Path.{_≡_};
 ghost use mathlib.Core.Bool.{_&&_};
-ghost use Prim.Native.Nat.{_+_, _-_, _≤_, _<_};
+ghost use Prim.Native.Nat.{_+_, _≤_, _<_};
 ghost use lib.Dec.{eqb};
 ghost use lib.ListN.{length, take, drop};
 ghost use Rattle.rules.specs.Station.{longestPeriod, slotCount, rowCount, shareWords, sum};
@@ -23,22 +21,12 @@ pub struct SliceFacts {
     pub hits: u64,
 }
 
-// From a to b, or 0 where b is not after a.
-fn since(a: u64, b: u64) -> u64
-    ensures { λ r. ⌜ r ≡ b - a ⌝ }
+// What one pass over the row gave, for a slice that is `long` ticks long.
+fn row_fits(row: RowFacts, long: u64) -> bool
+    requires { ⌜ (long ≤ longestPeriod) × (row .owed ≤ 4294967295) ⌝ }
+    ensures { λ r. ⌜ r ≡ rowTest (row .fits) (row .sum) long (row .owed) (row .hits) ⌝ }
 {
-    if a < b { b - a } else { 0 }
-}
-
-// What one pass over the row and one over the deadlines gave, for a slice that is `long` ticks long.
-fn row_fits(row: RowFacts, jobs: DueFacts, long: u64) -> bool
-    requires { ⌜ (long ≤ longestPeriod) × (jobs .owed ≤ 274877906880) ⌝ }
-    ensures { λ r. ⌜ r ≡ rowTest (row .largest) (row .strays) (row .sum) long (jobs .owed) (jobs .hits) ⌝ }
-{
-    wide(row.largest) <= GRAINS * long
-        && row.strays == 0
-        && row.sum <= long * jobs.owed
-        && 0 < jobs.hits
+    row.fits && row.sum <= long * row.owed && 0 < row.hits
 }
 
 // Row k, whose slice runs from lo to end. Any ends may come: those that no sound table has are answered before anything is computed.
@@ -51,7 +39,7 @@ fn one_slice(
     lo: u64,
     end: u64,
 ) -> SliceFacts
-    requires { ⌜ (shareWords ≤ length (now shares)) × (k < rowCount) × (length (now due) ≡ slotCount) × (length (now rates) ≡ slotCount) ⌝ }
+    requires { ⌜ (shareWords ≤ length (now shares)) × (k < rowCount) × (length (now due) ≡ slotCount) × (length (now rates) ≡ slotCount) × (sum (now rates) ≤ 4294967295) ⌝ }
     ensures { λ r. ⌜ (r .ok ≡ sliceCheck start (now (due .entry)) (now (rates .entry)) lo (sliceAt end (rowAt k (now (shares .entry))))) × (r .hits ≡ sliceHits start (now (due .entry)) lo (sliceAt end (rowAt k (now (shares .entry))))) × (r .hits ≤ slotCount) ⌝ }
 {
     let at = since(start, end);
@@ -59,11 +47,11 @@ fn one_slice(
     if long == 0 || LONGEST_PERIOD < at || LONGEST_PERIOD < long {
         return SliceFacts { ok: false, hits: 0 };
     }
-    let row = row_look(shares, k, due, narrow(at));
-    let jobs = due_facts(due, rates, narrow(at));
+    let most = narrow(GRAINS * long);
+    let row = row_look(shares, k, due, rates, narrow(at), most);
     SliceFacts {
-        ok: row_fits(row, jobs, long),
-        hits: jobs.hits,
+        ok: row_fits(row, long),
+        hits: row.hits,
     }
 }
 
@@ -88,7 +76,7 @@ pub fn slices_sound(
     count: usize,
     start: u64,
 ) -> SliceFacts
-    requires { ⌜ (shareWords ≤ length (now shares)) × (length (now due) ≡ slotCount) × (length (now rates) ≡ slotCount) × (length (now ends) ≡ rowCount) × (count ≤ rowCount) ⌝ }
+    requires { ⌜ (shareWords ≤ length (now shares)) × (length (now due) ≡ slotCount) × (length (now rates) ≡ slotCount) × (sum (now rates) ≤ 4294967295) × (length (now ends) ≡ rowCount) × (count ≤ rowCount) ⌝ }
     ensures { λ r. ⌜ (r .ok ≡ eachSlice (sliceCheck start (now (due .entry)) (now (rates .entry))) start (slicesOf (take count (now (ends .entry))) (rowsOf rowCount (now (shares .entry))))) × (r .hits ≡ allHits start (now (due .entry)) start (slicesOf (take count (now (ends .entry))) (rowsOf rowCount (now (shares .entry))))) ⌝ }
 {
     let mut found = SliceFacts { ok: true, hits: 0 };

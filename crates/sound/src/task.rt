@@ -2,43 +2,42 @@ use crate::GRAINS;
 use crate::LAST_TICK;
 use crate::LONGEST_PERIOD;
 use rows::SLOTS;
+use rows::word::narrow;
 use rows::word::wide;
 use rules::Task;
 ghost use mathlib.Core.Path.{_≡_};
-ghost use mathlib.Core.Bool.{_&&_};
-ghost use Prim.Native.Nat.{_%_, _≤_};
-ghost use lib.Dec.{eqb};
-ghost use Rattle.rules.specs.Station.{lastTick, longestPeriod, inUse, rateOf};
-ghost use Rattle.rules.specs.Sound.{eachTask, lawfulTest, inTimeTest, unusedTest};
-ghost use Rattle.sound.specs.Lent.{flag, usedOf, taskTest};
+ghost use mathlib.Core.Bool.{true, _&&_};
+ghost use Prim.Native.Nat.{_-_, _*_, _%_, _≤_};
+ghost use lib.Dec.{leb, ltb, eqb};
+ghost use lib.ListN.{length};
+ghost use Rattle.rules.specs.Station.{lastTick, longestPeriod, slotCount, grains, inUse};
+ghost use Rattle.rules.specs.Sound.{eachTask, lawfulTest, inTimeTest};
+ghost use Rattle.sound.specs.Lent.{flag, usedOf, freeTest, taskTest};
+ghost use Rattle.sound.specs.Due.{dueFrom, duesOf, ratesOf};
 
-// "Its rate is cost divided by period, rounded up", by two products and no division.
+// "Its rate is cost divided by period, rounded up", by a product and no division: the allowance reaches the cost, and would not
+// with a rate of one less.
 fn rate_is(period: u64, cost: u64, rate: u64) -> bool
-    requires { ⌜ (1 ≤ period) × (period ≤ longestPeriod) × (1 ≤ cost) × (rate ≤ 4294967295) ⌝ }
-    ensures { λ r. ⌜ r ≡ eqb rate (rateOf period cost) ⌝ }
+    requires { ⌜ (period ≤ longestPeriod) × (1 ≤ rate) × (rate ≤ grains 1) ⌝ }
+    ensures { λ r. ⌜ r ≡ leb cost (rate * period) && ltb (rate * period - period) cost ⌝ }
 {
-    if rate == 0 {
-        return false;
-    }
-    (rate - 1) * period < cost && cost <= rate * period
+    let allowance = rate * period;
+    cost <= allowance && allowance - period < cost
 }
 
-// "every slot in use has a lawful period, cost and rate"
+// "every slot in use has a lawful period, cost and rate". A lawful rate is "1 to 1,000", which bounds the cost too.
 fn lawful(k: Task) -> bool
-    ensures { λ r. ⌜ r ≡ lawfulTest k ⌝ }
+    ensures { λ r. ⌜ r ≡ inUse k && lawfulTest k ⌝ }
 {
     let period = wide(k.period);
-    let cost = wide(k.cost);
-    if period == 0 {
-        return true;
-    }
-    if LONGEST_PERIOD < period {
+    let rate = wide(k.rate);
+    if period < 1 || LONGEST_PERIOD < period {
         return false;
     }
-    if cost == 0 || GRAINS * period < cost {
+    if rate < 1 || GRAINS < rate {
         return false;
     }
-    rate_is(period, cost, wide(k.rate))
+    rate_is(period, wide(k.cost), rate)
 }
 
 // "each pending job's deadline is in range, above the clock and at most plan start plus period"
@@ -55,50 +54,58 @@ fn in_time(k: Task, clock: u64, start: u64) -> bool
 
 // "Slots not in use hold zeros."
 fn unused(k: Task) -> bool
-    ensures { λ r. ⌜ r ≡ unusedTest k ⌝ }
+    ensures { λ r. ⌜ r ≡ freeTest k ⌝ }
 {
-    if 0 < k.period {
-        return true;
+    k.period == 0 && k.cost == 0 && k.rate == 0 && k.deadline == 0
+}
+
+// One slot: the lowest bit of what is left of the slots in use says whether it is, and its task is sound by itself.
+fn one_task(used: u64, k: Task, clock: u64, start: u64) -> bool
+    requires { ⌜ start ≤ lastTick ⌝ }
+    ensures { λ r. ⌜ r ≡ eqb (used % 2) (flag (inUse k)) && taskTest clock start k ⌝ }
+{
+    if used % 2 == 0 {
+        return unused(k);
     }
-    k.cost == 0 && k.rate == 0 && k.deadline == 0
+    lawful(k) && in_time(k, clock, start)
 }
 
-fn one_task(k: Task, clock: u64, start: u64) -> bool
-    requires { ⌜ start ≤ lastTick ⌝ }
-    ensures { λ r. ⌜ r ≡ taskTest clock start k ⌝ }
+// From a to b, or 0 where b is not after a.
+pub fn since(a: u64, b: u64) -> u64
+    ensures { λ r. ⌜ r ≡ b - a ⌝ }
 {
-    lawful(k) && in_time(k, clock, start) && unused(k)
+    if a < b { b - a } else { 0 }
 }
 
-// The lowest bit of the slots in use says whether this slot is.
-fn bit_agrees(used: u64, k: Task) -> bool
-    ensures { λ r. ⌜ r ≡ eqb (used % 2) (flag (inUse k)) ⌝ }
+// A deadline in ticks after the plan start, or 0 where no job is pending: the low 32 bits, which a sound job's deadline fits.
+fn due_of(deadline: u64, start: u64) -> u32
+    ensures { λ r. ⌜ r ≡ dueFrom start deadline ⌝ }
 {
-    if 0 < k.period {
-        used % 2 == 1
-    } else {
-        used % 2 == 0
-    }
+    narrow(since(start, deadline) % 4294967296)
 }
 
-// One slot more: its task, and the lowest bit of what is left of the slots in use.
-fn one_more(ok: bool, used: u64, k: Task, clock: u64, start: u64) -> bool
-    requires { ⌜ start ≤ lastTick ⌝ }
-    ensures { λ r. ⌜ r ≡ ok && (eqb (used % 2) (flag (inUse k)) && taskTest clock start k) ⌝ }
+// All slots: the word of the slots in use, and each task by itself. The same pass writes the deadlines and the rates side by side;
+// it ends at the first slot that is not sound.
+pub fn tasks_sound(
+    used: u64,
+    tasks: [Task; 64],
+    clock: u64,
+    start: u64,
+    due: &mut [u32],
+    rates: &mut [u32],
+) -> bool
+    requires { ⌜ (start ≤ lastTick) × (length (now due) ≡ slotCount) × (length (now rates) ≡ slotCount) ⌝ }
+    ensures { λ r. ⌜ (r ≡ eqb used (usedOf tasks) && eachTask (taskTest clock start) tasks) × (r ≡ true → now (due .exit) ≡ duesOf start tasks) × (r ≡ true → now (rates .exit) ≡ ratesOf tasks) ⌝ }
 {
-    ok && bit_agrees(used, k) && one_task(k, clock, start)
-}
-
-// All slots: the word of the slots in use, and each task by itself.
-pub fn tasks_sound(used: u64, tasks: [Task; 64], clock: u64, start: u64) -> bool
-    requires { ⌜ start ≤ lastTick ⌝ }
-    ensures { λ r. ⌜ r ≡ eqb used (usedOf tasks) && eachTask (taskTest clock start) tasks ⌝ }
-{
-    let mut ok = true;
     let mut left = used;
     for i in 0..SLOTS {
-        ok = one_more(ok, left, tasks[i], clock, start);
+        let k = tasks[i];
+        if !one_task(left, k, clock, start) {
+            return false;
+        }
         left = left / 2;
+        due[i] = due_of(k.deadline, start);
+        rates[i] = k.rate;
     }
-    ok && left == 0
+    left == 0
 }

@@ -3,8 +3,6 @@ use crate::LAST_TICK;
 use crate::MOST_CORES;
 use crate::due::DueFacts;
 use crate::due::due_facts;
-use crate::due::dues;
-use crate::due::rates_of;
 use crate::slice::ends_zero;
 use crate::slice::slices_sound;
 use crate::task::tasks_sound;
@@ -81,11 +79,11 @@ pub fn sound(
     if shares.len() < WORDS || !scalars(cores, clock, start, count) {
         return false;
     }
-    if !tasks_sound(used, tasks, clock, start) {
+    let mut due = [0u32; 64];
+    let mut rates = [0u32; 64];
+    if !tasks_sound(used, tasks, clock, start, &mut due, &mut rates) {
         return false;
     }
-    let due = dues(tasks, start);
-    let rates = rates_of(tasks);
     plan_sound(
         cores,
         clock,

@@ -6,7 +6,7 @@ use mathlib.Core.List.{List, [], _∷_, _++_}
 use Prim.Native.Nat.{ℕ, zero, suc, _+_, _-_, _*_, _<_, _≤_, suc-le-suc}
 use native.Mathlib.Nat.{not-suc-le-zero, le-of-suc-le-suc, add-sub-of-le}
 use native.Mathlib.Omega.{arith}
-use lib.ListN.{length, take, drop, getD, replicate, length-drop}
+use lib.ListN.{length, take, drop, getD, replicate, length-take, length-drop}
 use lib.Seq.{take-add, drop-drop, length-take-le}
 use Rattle.rules.specs.Station.{sum, zeros}
 use Rattle.rules.specs.Words.{rowsOf, rowsIn}
@@ -27,6 +27,25 @@ sum-append : (a b : List ℕ) → sum (a ++ b) ≡ sum a + sum b
 unfolding sum
 sum-append [] b = omega arith
 sum-append (s ∷ ss) b = omega (arith, sum-append ss b)
+
+-- a part has as many words as lie between its ends
+pub part-long : (a q e : ℕ) (words : List ℕ) → a + q ≡ e → e ≤ length words → length (take (e - a) (drop a words)) ≡ q
+part-long a q e words is room = simp (length-take, length-drop) (omega arith)
+
+-- a part from a to e, cut at b, and cut in four
+part-sum : (a b e : ℕ) (words : List ℕ) → a ≤ b → b ≤ e → sum (take (e - a) (drop a words)) ≡ sum (take (b - a) (drop a words)) + sum (take (e - b) (drop b words))
+part-sum a b e words first second =
+    let long : e - a ≡ b - a + (e - b) = omega arith in
+    let later : drop (b - a) (drop a words) ≡ drop b words = rw (drop-drop (b - a) a words, add-sub-of-le first) in
+    rw (long, take-add (b - a) (e - b) (drop a words), later) (sum-append (take (b - a) (drop a words)) (take (e - b) (drop b words)))
+
+pub four-sums : (a b c d e : ℕ) (words : List ℕ) → a ≤ b → b ≤ c → c ≤ d → d ≤ e
+    → sum (take (e - a) (drop a words)) ≡ sum (take (b - a) (drop a words)) + sum (take (c - b) (drop b words)) + (sum (take (d - c) (drop c words)) + sum (take (e - d) (drop d words)))
+four-sums a b c d e words h i j k =
+    let one = part-sum a b e words h (omega arith) in
+    let two = part-sum b c e words i (omega arith) in
+    let three = part-sum c d e words j k in
+    omega arith
 
 zero-words : (words : List ℕ) → sum words ≡ 0 → words ≡ replicate (length words) 0
 unfolding sum

@@ -1,12 +1,14 @@
 use rows::SLOTS;
 use rows::look::RowFacts;
 ghost use mathlib.Core.Path.{_≡_};
+ghost use mathlib.Core.Bool.{true};
 ghost use Prim.Native.Nat.{ℕ, _+_, _≤_, _<_};
 ghost use lib.ListN.{length, getD, set};
-ghost use Rattle.rules.specs.Station.{slotCount, rowCount, shareWords, zeros, sum};
+ghost use Rattle.rules.specs.Station.{slotCount, rowCount, shareWords, grains, longestPeriod, zeros, sum};
 ghost use Rattle.rules.specs.Release.{lowerRow};
-ghost use Rattle.rules.specs.Words.{rowsOf, rowAt, Rowed, largest, strays};
+ghost use Rattle.rules.specs.Words.{rowsOf, rowAt, Rowed};
 ghost use Rattle.rows.specs.Asked.{Lower};
+ghost use Rattle.rows.specs.Row.{sharesFit, owedIn, hitsIn};
 
 // The shares of row k, added up.
 pub fn row_sum(shares: &[u32], k: usize) -> u64
@@ -18,14 +20,21 @@ pub fn row_sum(shares: &[u32], k: usize) -> u64
     rows::sums::sum(&shares[a..b])
 }
 
-// What a sound table asks of row k, whose slice ends `end` ticks after the plan start.
-pub fn row_look(shares: &[u32], k: usize, due: &[u32], end: u32) -> RowFacts
-    requires { ⌜ (shareWords ≤ length (now shares)) × (k < rowCount) × (length (now due) ≡ slotCount) ⌝ }
-    ensures { λ r. ⌜ (r .sum ≡ sum (rowAt k (now (shares .entry)))) × (r .largest ≡ largest (rowAt k (now (shares .entry)))) × (r .strays ≡ strays end (now (due .entry)) (rowAt k (now (shares .entry)))) ⌝ }
+// What a sound table asks of row k, whose slice ends `end` ticks after the plan start and has `most` grains.
+pub fn row_look(
+    shares: &[u32],
+    k: usize,
+    due: &[u32],
+    rates: &[u32],
+    end: u32,
+    most: u32,
+) -> RowFacts
+    requires { ⌜ (shareWords ≤ length (now shares)) × (k < rowCount) × (length (now due) ≡ slotCount) × (length (now rates) ≡ slotCount) × (sum (now rates) ≤ 4294967295) × (most ≤ grains longestPeriod) ⌝ }
+    ensures { λ r. ⌜ (r .fits ≡ sharesFit end most (now (due .entry)) (rowAt k (now (shares .entry)))) × (r .fits ≡ true → r .sum ≡ sum (rowAt k (now (shares .entry)))) × (r .owed ≡ owedIn end (now (due .entry)) (now (rates .entry))) × (r .hits ≡ hitsIn end (now (due .entry))) × (r .owed ≤ 4294967295) × (r .hits ≤ slotCount) ⌝ }
 {
     let a = SLOTS * k;
     let b = a + SLOTS;
-    rows::look::look(&shares[a..b], due, end)
+    rows::look::look(&shares[a..b], due, rates, end, most)
 }
 
 // Row k becomes zero.

@@ -10,13 +10,22 @@ ghost use lib.ListN.{length, take, drop};
 ghost use Rattle.rules.specs.Station.{slotCount, rowCount, shareWords, sum};
 ghost use Rattle.rules.specs.Words.{Rowed, rowsIn};
 
-// Whether all rows from n on are zero.
+// Whether all rows from n on are zero: their words, in four parts.
 pub fn rows_zero(shares: &[u32], n: usize) -> bool
     requires { ⌜ (shareWords ≤ length (now shares)) × (n ≤ rowCount) ⌝ }
     ensures { λ r. ⌜ r ≡ eqb (sum (drop (slotCount * n) (take shareWords (now (shares .entry))))) 0 ⌝ }
 {
+    let quarter = SLOTS / 4 * (ROWS - n);
     let a = SLOTS * n;
-    rows::sums::all_zero(&shares[a..WORDS])
+    let b = a + quarter;
+    let c = b + quarter;
+    let d = c + quarter;
+    rows::sums::four_zero(
+        &shares[a..b],
+        &shares[b..c],
+        &shares[c..d],
+        &shares[d..WORDS],
+    )
 }
 
 // "all 4,096 words zero"

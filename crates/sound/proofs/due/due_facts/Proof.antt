@@ -7,8 +7,8 @@ use native.Mathlib.Omega.{arith}
 use borrow.Author.Needs.{needs}
 use denote.Ref.{now}
 use lib.ListN.{length, drop}
-use Rattle.sound.specs.Due.{owedIn, hitsIn}
-use Rattle.sound.proofs.Dues.{owed-next, owed-done, hits-next, hits-done}
+use Rattle.rows.specs.Row.{owedIn, hitsIn}
+use Rattle.rows.proofs.Folds.{owed-next, owed-done, hits-next, hits-done}
 use Rattle.sound.proofs.due.due_facts.Statement.{statement}
 use Rattle.sound.proofs.due.due_facts.Tie as tie
 

@@ -1,5 +1,5 @@
--- `one_slice` answers at once for a slice that is not within the longest period, and looks at its row and at the deadlines otherwise.
--- What the two passes give is what the slice's test asks.
+-- `one_slice` answers at once for a slice that is not within the longest period, and looks at its row otherwise.
+-- What the pass gives is what the slice's test asks: the sum counts only where each share fits.
 use mathlib.Core.Path.{_≡_}
 use mathlib.Core.Logic.{⊎-elim}
 use mathlib.Core.Bool.{true, false}
@@ -8,9 +8,10 @@ use native.Mathlib.Omega.{arith}
 use borrow.Author.Tests.{lt-ltb, le-ltb, le-leb, lt-leb, ltb-true, ltb-false}
 use borrow.Author.Needs.{needs}
 use denote.Ref.{now}
+use Rattle.rules.specs.Station.{sum}
 use Rattle.rules.specs.Words.{rowAt}
 use Rattle.sound.specs.Due.{within, sliceCheck, sliceHits, sliceAt}
-use Rattle.sound.proofs.Passed.{not-within}
+use Rattle.sound.proofs.Passed.{not-within, sum-counts}
 use Rattle.sound.proofs.slice.one_slice.Statement.{statement}
 use Rattle.sound.proofs.slice.one_slice.Tie as tie
 
@@ -38,8 +39,17 @@ returns c =
     let none = not-within (at .start) (now (at .due)) (now (at .rates)) (at .lo) (at .end) (rowAt (at .k) (now (at .shares))) (outside c) in
     (none .0, none .1, omega arith)
 
+mul-narrow : tie.Need-mul-narrow
+mul-narrow c = omega (arith, ltb-false)
+
 narrow-requires : tie.Need-narrow-requires
 narrow-requires c κs = omega (arith, ltb-false)
+
+narrow-requires-2 : tie.Need-narrow-requires-2
+narrow-requires-2 c κs = omega (arith, ltb-false)
+
+row-look-requires : tie.Need-row-look-requires
+row-look-requires c κs = omega (arith, ltb-false)
 
 row-fits-requires : tie.Need-row-fits-requires
 row-fits-requires c κs = omega (arith, ltb-false)
@@ -47,7 +57,11 @@ row-fits-requires c κs = omega (arith, ltb-false)
 returns-2 : tie.Need-returns-2
 unfolding sliceCheck sliceHits sliceAt
 returns-2 c =
-    let ok = inside (c .before .before .before .before .before) in
+    let at = c .before .before .before .before .before .before .before .before .before .before .before .before .args in
+    let row = c .before .row-look .result in
+    let got = c .before .row-look .ensures in
+    let ok = inside (c .before .before .before .before) in
+    let same = sum-counts (row .fits) (row .sum) (sum (rowAt (at .k) (now (at .shares)))) (at .end - at .lo) (row .owed) (row .hits) (got .1) in
     (rw ok (cc), rw ok (cc), search needs)
 
 pub one-slice-spec : {M : Type 1} → statement M
@@ -57,9 +71,9 @@ one-slice-spec =
     (λ c κs. search needs)  -- since-requires
     (λ c κs. search needs)  -- since-requires-2
     returns
+    mul-narrow
     narrow-requires
-    (λ c κs. search needs)  -- row-look-requires
-    (λ c κs. search needs)  -- narrow-requires-2
-    (λ c κs. search needs)  -- due-facts-requires
+    narrow-requires-2
+    row-look-requires
     row-fits-requires
     returns-2)

@@ -2,10 +2,11 @@
 -- Each test but the last leaves a flag, which the next joins; together they are the plan's test in another grouping.
 use mathlib.Core.Path.{_≡_, refl, sym, _∙_}
 use mathlib.Core.Logic.{⊎-elim}
-use mathlib.Core.Bool.{_&&_, _||_, and-assoc, and-true}
+use mathlib.Core.Bool.{_&&_, _||_, and-eq-true-iff, and-assoc, and-true}
 use mathlib.Core.List.{List}
 use Prim.Native.Nat.{ℕ, _-_, _*_}
-use borrow.Author.Tests.{not-true, not-false}
+use native.Mathlib.Omega.{arith}
+use borrow.Author.Tests.{leb-true, not-true, not-false}
 use borrow.Author.Needs.{needs}
 use denote.Ref.{now}
 use lib.Dec.{leb, ltb, eqb}
@@ -13,7 +14,9 @@ use lib.ListN.{take, drop}
 use Rattle.rules.specs.Station.{grains, slotCount, rowCount, shareWords, sum}
 use Rattle.rules.specs.Sound.{every, eachSlice}
 use Rattle.rules.specs.Words.{rowsOf, slicesOf}
-use Rattle.sound.specs.Due.{owedIn, hitsIn, sliceCheck, allHits, planTest}
+use Rattle.rows.specs.Row.{owedIn, hitsIn}
+use Rattle.sound.specs.Due.{sliceCheck, allHits, planTest}
+use Rattle.sound.proofs.Dues.{owed-sum}
 use Rattle.sound.proofs.Tests.{and-then, and-else}
 use Rattle.sound.proofs.whole.plan_sound.Statement.{statement}
 use Rattle.sound.proofs.whole.plan_sound.Tie as tie
@@ -30,6 +33,15 @@ plan-order cores clock start due rates count ends words = simp (and-assoc, and-t
 loaded : (c : tie.After-load-sound) → let at = c .before .before .before .before .before .before .args in
     c .load-sound .result ≡ (leb (owedIn 0 (now (at .due)) (now (at .rates))) (grains (at .cores)) && (ltb (hitsIn 0 (now (at .due))) slotCount || eqb (at .start) (at .clock)))
 loaded c = cc
+
+-- the load bounds the rates together
+slices-sound-requires : tie.Need-slices-sound-requires
+slices-sound-requires c κs =
+    let l = c .before .before in
+    let at = l .before .before .before .before .before .before .args in
+    let fits = sym (loaded l) ∙ not-false _ (c .before .if1 .left) in
+    let load = leb-true (owedIn 0 (now (at .due)) (now (at .rates))) (grains (at .cores)) (and-eq-true-iff _ _ .0 fits .0) in
+    omega (arith, owed-sum (now (at .due)) (now (at .rates)) (omega arith))
 
 two : (c : tie.Joined2) → let found = c .before .slices-sound .result in c .if2 .if3 ≡ (found .ok && eqb (found .hits) (64 - c .before .before .before .before .before .due-facts .result .hits))
 two c = ⊎-elim (λ w. and-then _ _ (w .0 .taken) (w .2)) (λ w. and-else _ _ (w .0 .left) (w .1)) (c .if2 .came)
@@ -69,7 +81,7 @@ plan-sound-spec =
     (λ c κs. search needs)  -- load-sound-requires
     returns
     (λ c. search needs)  -- sub-jobs
-    (λ c κs. search needs)  -- slices-sound-requires
+    slices-sound-requires
     (λ c κs. search needs)  -- ends-zero-requires
     (λ c κs. search needs)  -- rows-zero-requires
     returns-2

@@ -10,6 +10,7 @@ use denote.Ref.{now}
 use lib.ListN.{length}
 use Rattle.sound.specs.Due.{duesOf, planTest}
 use Rattle.sound.proofs.Tests.{not-both}
+use Rattle.sound.proofs.Dues.{dues-long, rates-long}
 use Rattle.sound.proofs.Clauses.{InRange, in-range, Asked, refused, whole}
 use Rattle.sound.proofs.whole.sound.Statement.{statement}
 use Rattle.sound.proofs.whole.sound.Tie as tie
@@ -27,34 +28,43 @@ returns c = (
 )
 
 tasks-sound-requires : tie.Need-tasks-sound-requires
-tasks-sound-requires c κs = omega (arith, ranged c)
+tasks-sound-requires c κs = omega (arith, ranged (c .before .before))
 
 returns-2 : tie.Need-returns-2
-returns-2 c = (
-  refused _ _ _ _ _ _ _ _ (λ a. not-both (a .each) (sym (c .before .tasks-sound .ensures) ∙ not-true _ (c .if3 .taken))),
-  omega (arith, c .before .before .before .before .before .before .good),
-)
+returns-2 c =
+    let tasks = c .before .before .before in (
+      refused _ _ _ _ _ _ _ _ (λ a. not-both (a .each) (sym (tasks .tasks-sound .ensures .0) ∙ not-true _ (c .if3 .taken))),
+      omega (arith, tasks .before .before .before .before .before .before .before .good),
+    )
 
 plan-sound-requires : tie.Need-plan-sound-requires
-plan-sound-requires c κs = omega (arith, ranged (c .before .before .before .before .before .before .before))
+plan-sound-requires c κs =
+    let tasks = c .before .before .before .before .before .before in
+    let entry = tasks .before .before .before .before .before .before .before in
+    let slots : length (entry .args .tasks) ≡ 64 = omega (arith, entry .good) in
+    let all = not-false _ (c .before .before .before .if3 .left) in
+    let due = ap length (tasks .tasks-sound .ensures .1 all) ∙ dues-long (entry .args .start) (entry .args .tasks) in
+    let rates = ap length (tasks .tasks-sound .ensures .2 all) ∙ rates-long (entry .args .tasks) in
+    omega (arith, ranged (tasks .before .before .before), entry .good)
 
 returns-3 : tie.Need-returns-3
 returns-3 c =
     let tasks = c .before .before .before .before .before .before .before in
-    let e = tasks .before in
+    let e = tasks .before .before .before in
     let entry = e .before .before .before .before in
     let at = entry .args in
     let slots : length (at .tasks) ≡ 64 = omega (arith, entry .good) in
     let enough : 4096 ≤ length (now (at .shares)) = omega (arith, e .before .before) in
+    let got = tasks .tasks-sound .ensures in
+    let all = not-false _ (c .before .before .before .before .if3 .left) in
     let a : Asked (at .cores) (at .clock) (at .start) (at .used) (at .tasks) (at .count) (at .t7) (now (at .shares)) = record {
       enough = enough;
       scalars = sym (e .before .scalars .ensures) ∙ not-false _ (e .if2 .left);
-      each = sym (tasks .tasks-sound .ensures) ∙ not-false _ (c .before .before .before .before .before .before .if3 .left);
-    } in
-    let r = c .before .before .before .before in (
+      each = sym (got .0) ∙ all;
+    } in (
       c .plan-sound .ensures
-          ∙ ap (λ d. planTest (at .cores) (at .clock) (at .start) d (r .rates-of .result) (at .count) (at .t7) (now (at .shares))) (r .before .dues .ensures)
-          ∙ ap (λ d. planTest (at .cores) (at .clock) (at .start) (duesOf (at .start) (at .tasks)) d (at .count) (at .t7) (now (at .shares))) (r .rates-of .ensures)
+          ∙ ap (λ d. planTest (at .cores) (at .clock) (at .start) d (tasks .tasks-sound .last .1 .1 .1 .1 .1 .0) (at .count) (at .t7) (now (at .shares))) (got .1 all)
+          ∙ ap (λ d. planTest (at .cores) (at .clock) (at .start) (duesOf (at .start) (at .tasks)) d (at .count) (at .t7) (now (at .shares))) (got .2 all)
           ∙ whole (at .cores) (at .clock) (at .start) (at .used) (at .tasks) (at .count) (at .t7) (now (at .shares)) slots a,
       omega (arith, entry .good),
     )
@@ -65,10 +75,10 @@ sound-spec =
     (tie.spec
     (λ c κs. search needs)  -- scalars-requires
     returns
+    (λ c. search needs)  -- slice-aggregate-tasks-sound
+    (λ c. search needs)  -- slice-aggregate-tasks-sound-2
     tasks-sound-requires
     returns-2
-    (λ c κs. search needs)  -- dues-requires
-    (λ c κs. search needs)  -- rates-of-requires
     (λ c. search needs)  -- slice-aggregate-plan-sound
     (λ c. search needs)  -- slice-aggregate-plan-sound-2
     (λ c. search needs)  -- slice-aggregate-plan-sound-3

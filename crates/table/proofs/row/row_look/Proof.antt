@@ -10,7 +10,7 @@ use Rattle.table.proofs.row.row_look.Tie as tie
 
 returns : tie.Need-returns
 returns c =
-    let at = c .before .before .before .before .args in
+    let at = c .before .before .before .before .before .args in
     let a = 64 * at .k in
     rw (row-part (at .k) (a + 64 - a) (now (at .shares)) (omega arith) (omega arith)) at (c .look .ensures)
 

@@ -1,0 +1,10 @@
+pub mod Placed
+pub mod Printing
+pub mod Printable
+pub mod Answering
+pub mod Feeding
+pub mod Streams
+pub mod Further
+pub mod Ruled
+pub mod Promises
+pub mod Listing

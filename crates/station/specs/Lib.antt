@@ -1,0 +1,3 @@
+pub mod Area
+pub mod Station
+pub mod Put

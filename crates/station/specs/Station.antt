@@ -1,0 +1,62 @@
+-- What each call leaves in the words that a station lends.
+use mathlib.Core.Bool.{cond}
+use mathlib.Core.List.{List, [], _++_}
+use Prim.Native.Nat.{ℕ, zero, suc}
+use lib.Dec.{ltb}
+use lib.ListN.{length, drop}
+use Rattle.rules.specs.Station.{slotCount}
+use Rattle.rules.specs.Advance.{Holding, held, idleUntil, idle}
+use Rattle.rules.specs.Calls.{Answer, Call, refusal}
+use Rattle.planner.specs.Held.{Left, blankPlanner, called, opening}
+use Rattle.planner.specs.Holding.{told}
+use Rattle.station.specs.Area.{stateWords, resultWords, plannerIn, wordsFor, answered}
+
+-- What a call leaves: the four areas lent, and the number that it answers.
+pub record Lent : Type 0 where
+  pub state : List ℕ
+  pub shares : List ℕ
+  pub segments : List ℕ
+  pub result : List ℕ
+  pub number : ℕ
+
+abbrev pub lent : List ℕ → List ℕ → List ℕ → List ℕ → ℕ → Lent
+lent state shares segments result number = record { state = state; shares = shares; segments = segments; result = result; number = number }
+
+-- By the refusal's number: a call that is done leaves its planner, its words and its answer; a refused one only its answer.
+unfoldable pub settled : ℕ → Left → List ℕ → List ℕ → List ℕ → List ℕ → Lent
+settled zero l state shares segments result = lent (wordsFor (l .planner) ++ drop stateWords state) (l .words) (l .buffer) (answered (l .answer) result) 0
+settled (suc n) l state shares segments result = lent state shares segments (answered (refusal (suc n)) result) (suc n)
+
+-- First the areas' lengths: a result area that is too short is left as it is, and a state area that is too short is refusal 1.
+unfoldable pub lengthsFirst : List ℕ → List ℕ → List ℕ → List ℕ → Lent → Lent
+lengthsFirst state shares segments result then =
+    cond (ltb (length result) resultWords) (lent state shares segments result 1)
+    (cond (ltb (length state) stateWords) (lent state shares segments (answered (refusal 1) result) 1) then)
+
+unfoldable pub leftIn : Left → List ℕ → List ℕ → List ℕ → List ℕ → Lent
+leftIn l state shares segments result = lengthsFirst state shares segments result (settled (l .answer .number) l state shares segments result)
+
+-- Declare, withdraw, release and advance: what the planner's call leaves, on the planner that the state area holds.
+unfoldable pub stationed : List ℕ → List ℕ → List ℕ → List ℕ → Call → Lent
+stationed state shares segments result call = leftIn (called (plannerIn state) shares segments call) state shares segments result
+
+-- Open: does not look at what the state area holds.
+unfoldable pub openedIn : List ℕ → List ℕ → List ℕ → ℕ → Lent
+openedIn state shares result cores = leftIn (opening blankPlanner shares cores) state shares [] result
+
+-- Holder's three cases as value and count: the slot and the grain at which its segment ends; 64 for idle, with the grain at which slice 0
+-- ends, or 0 without a limit.
+unfoldable pub holdingWords : Holding → Answer
+holdingWords (held slot until) = record { number = 0; value = slot; count = until }
+holdingWords (idleUntil grain) = record { number = 0; value = slotCount; count = grain }
+holdingWords idle = record { number = 0; value = slotCount; count = 0 }
+
+unfoldable pub toldWords : ℕ → Holding → Answer
+toldWords zero h = holdingWords h
+toldWords (suc n) h = refusal (suc n)
+
+-- Holder: writes the result area alone.
+unfoldable pub holderIn : List ℕ → List ℕ → List ℕ → ℕ → Lent
+holderIn state shares result core =
+    let t = told (plannerIn state) shares core in
+    lengthsFirst state shares [] result (lent state shares [] (answered (toldWords (t .number) (t .holding)) result) (t .number))
