@@ -2,6 +2,7 @@ use crate::Answer;
 use crate::Next;
 use crate::Planner;
 use rules::Task;
+use sound::MOST_CORES;
 use table::WORDS;
 use table::zero::clear_table;
 ghost use mathlib.Core.Path.{_≡_};
@@ -45,7 +46,7 @@ impl Planner {
         if shares.len() < WORDS {
             return self.refuse(1);
         }
-        if cores < 1 || 16 < cores {
+        if cores < 1 || MOST_CORES < cores {
             return self.refuse(2);
         }
         clear_table(shares);

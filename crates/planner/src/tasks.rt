@@ -9,6 +9,8 @@ use crate::slots::rate_of;
 use rows::word::narrow;
 use rows::word::wide;
 use rules::Task;
+use sound::GRAINS;
+use sound::LONGEST_PERIOD;
 ghost use mathlib.Core.Path.{_≡_};
 ghost use mathlib.Core.List.{List, []};
 ghost use Prim.Native.Nat.{ℕ, _≤_, _<_};
@@ -64,10 +66,10 @@ impl Planner {
         if !self.sound(shares) {
             return self.refuse(1);
         }
-        if period < 1 || 60000 < period {
+        if period < 1 || LONGEST_PERIOD < period {
             return self.refuse(3);
         }
-        if cost == 0 || 1000 * period < cost {
+        if cost == 0 || GRAINS * period < cost {
             return self.refuse(4);
         }
         if in_use(self.used) == 64 {
@@ -75,7 +77,7 @@ impl Planner {
         }
         let task = task_of(period, cost);
         let tasks = self.tasks;
-        if 1000 * self.cores < load(tasks) + wide(task.rate) {
+        if GRAINS * self.cores < load(tasks) + wide(task.rate) {
             return self.refuse(6);
         }
         self.with_lowest(task)
