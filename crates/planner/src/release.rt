@@ -84,7 +84,8 @@ impl Planner {
         requires { ⌜ Releases self (now shares) slot d ⌝ }
         ensures { λ r. ⌜ (r ≡ plannerOf (released (tableOf self (now (shares .entry))) slot)) × (now (shares .exit) ≡ wordsOf (released (tableOf self (now (shares .entry))) slot) ++ drop shareWords (now (shares .entry))) ⌝ }
     {
-        let task = self.tasks[slot];
+        let mut tasks = self.tasks;
+        let task = tasks[slot];
         let ends = self.ends;
         let b = replan(
             shares,
@@ -96,18 +97,22 @@ impl Planner {
             wide(task.rate),
             d,
         );
-        let mut next = self;
-        next.start = self.clock;
-        next.tasks[slot] = Task {
+        let bounds = b.ends;
+        tasks[slot] = Task {
             period: task.period,
             cost: task.cost,
             rate: task.rate,
             deadline: d,
         };
-        next.count = b.count as u64;
-        let bounds = b.ends;
-        next.ends = bounds;
-        next
+        Planner {
+            cores: self.cores,
+            clock: self.clock,
+            start: self.clock,
+            used: self.used,
+            tasks: tasks,
+            count: b.count as u64,
+            ends: bounds,
+        }
     }
 
     // The number of the first reason to refuse a release, or 0.

@@ -40,10 +40,18 @@ impl Planner {
         requires { ⌜ slot < 64 ⌝ }
         ensures { λ r. ⌜ r ≡ withSlot self slot task used ⌝ }
     {
-        let mut next = self;
-        next.tasks[slot] = task;
-        next.used = used;
-        next
+        let mut tasks = self.tasks;
+        tasks[slot] = task;
+        let ends = self.ends;
+        Planner {
+            cores: self.cores,
+            clock: self.clock,
+            start: self.start,
+            used: used,
+            tasks: tasks,
+            count: self.count,
+            ends: ends,
+        }
     }
 
     // The state with a task in the lowest free slot, and that slot's bit. Value: the slot.
@@ -94,7 +102,8 @@ impl Planner {
             return self.refuse(7);
         }
         let at = slot as usize;
-        let task = self.tasks[at];
+        let tasks = self.tasks;
+        let task = tasks[at];
         if task.period == 0 {
             return self.refuse(7);
         }

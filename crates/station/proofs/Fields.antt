@@ -1,4 +1,5 @@
 -- Tasks in words, four each: the task in a slot, its words, and the largest of the fields, slot by slot.
+use mathlib.Core.Bool.{Bool}
 use mathlib.Core.List.{List, [], _∷_}
 use mathlib.Core.Path.{_≡_, refl, ap, sym, _∙_}
 use Prim.Native.Nat.{ℕ, zero, suc, _+_, _*_, _≤_, _<_, max}
@@ -112,3 +113,26 @@ or-least a b =
 
 pub or-most : (a b : ℕ) → a ≤ mostField → b ≤ mostField → bitOr a b ≤ mostField
 or-most a b ha hb = le-of-suc-le-suc (or-lt 32 a b (omega arith) (omega arith))
+
+-- three words joined each with one more: beside any further number they pass the test exactly where all six do
+abbrev Joins : ℕ → ℕ → ℕ → Type 0
+Joins r all word = (more : ℕ) → leb (max r more) mostField ≡ leb (max all (max word more)) mostField
+
+third-first : (a b c y : ℕ) → max a (max b (max c y)) ≡ max c (max a (max b y))
+third-first a b c y = omega arith
+
+in-turn : (p c r P C R m : ℕ) → max r (max R (max c (max C (max p (max P m))))) ≡ max p (max c (max r (max P (max C (max R m)))))
+in-turn p c r P C R m =
+    let last : max R (max C m) ≡ max C (max R m) = omega arith in
+    ap (λ y. max r (max R y)) (third-first c C p (max P m))
+    ∙ third-first r R p (max c (max C (max P m)))
+    ∙ ap (max p) (third-first r R c (max C (max P m)))
+    ∙ ap (λ y. max p (max c (max r y))) (third-first R C P m ∙ ap (max P) last)
+
+pub joined-three : (p c r P C R p′ c′ r′ : ℕ) → Joins p′ p P → Joins c′ c C → Joins r′ r R → (m : ℕ) → leb (max p′ (max c′ (max r′ m))) mostField ≡ leb (max p (max c (max r (max P (max C (max R m)))))) mostField
+joined-three p c r P C R p′ c′ r′ ep ec er m =
+    let test : ℕ → Bool = λ n. leb n mostField in
+    let one = third-first p P c′ (max r′ m) in
+    let two = ap (λ y. max c (max C y)) (third-first p P r′ m) ∙ third-first c C r′ (max p (max P m)) in
+    let all = in-turn p c r P C R m in
+    ep (max c′ (max r′ m)) ∙ ap test one ∙ ec (max p (max P (max r′ m))) ∙ ap test two ∙ er (max c (max C (max p (max P m)))) ∙ ap test all

@@ -20,11 +20,11 @@ pub const TASKS_FROM: usize = 69;
 // The largest number that 32 bits hold.
 const MOST_FIELD: u64 = 4294967295;
 
-// Some words in one, which is above 32 bits where one of them is.
-fn joined(all: u64, period: u64, cost: u64, rate: u64) -> u64
-    ensures { λ r. ⌜ ((more : ℕ) → leb (max r more) mostField ≡ leb (max all (max period (max cost (max rate more)))) mostField) ⌝ }
+// Two words in one, which is above 32 bits where one of them is.
+fn joined(all: u64, word: u64) -> u64
+    ensures { λ r. ⌜ ((more : ℕ) → leb (max r more) mostField ≡ leb (max all (max word more)) mostField) ⌝ }
 {
-    all | period | (cost | rate)
+    all | word
 }
 
 // Whether each period, cost and rate fits 32 bits.
@@ -32,12 +32,16 @@ fn fits(tasks: &[u64]) -> bool
     requires { ⌜ 4 * slotCount ≤ length (now tasks) ⌝ }
     ensures { λ r. ⌜ r ≡ fitting (tasksIn slotCount (now (tasks .entry))) ⌝ }
 {
-    let mut all: u64 = 0;
+    let mut periods: u64 = 0;
+    let mut costs: u64 = 0;
+    let mut rates: u64 = 0;
     for i in 0..SLOTS {
         let a = 4 * i;
-        all = joined(all, tasks[a], tasks[a + 1], tasks[a + 2]);
+        periods = joined(periods, tasks[a]);
+        costs = joined(costs, tasks[a + 1]);
+        rates = joined(rates, tasks[a + 2]);
     }
-    all <= MOST_FIELD
+    joined(joined(periods, costs), rates) <= MOST_FIELD
 }
 
 // Whether a planner can be read from the area.

@@ -19,7 +19,7 @@ returns c =
     let s = c .before .before in
     let at = s .before .before .args in
     c .refuse .ensures (now (at .shares)) []
-    ∙ called-unsound (at .t1) (now (at .shares)) [] (withdraw (at .slot)) (sym (s .sound .ensures .0) ∙ not-true (s .sound .result) (c .before .if1 .taken))
+    ∙ called-unsound (at .self) (now (at .shares)) [] (withdraw (at .slot)) (sym (s .sound .ensures .0) ∙ not-true (s .sound .result) (c .before .if1 .taken))
 
 returns-2 : tie.Need-returns-2
 returns-2 c =
@@ -27,60 +27,60 @@ returns-2 c =
     let at = s .before .before .args in
     let w = now (at .shares) in
     let ok = sym (s .sound .ensures .0) ∙ not-false (s .sound .result) (c .before .before .if1 .left) in
-    c .refuse2 .ensures w [] ∙ withdraw-past (at .t1) w (s .sound .ensures .1) ok (at .slot) (c .before .if2 .taken)
+    c .refuse2 .ensures w [] ∙ withdraw-past (at .self) w (s .sound .ensures .1) ok (at .slot) (c .before .if2 .taken)
 
 returns-3 : tie.Need-returns-3
 unfolding free
 returns-3 c =
-    let s = c .before .before .before .before .before .before in
+    let s = c .before .before .before .before .before .before .before in
     let at = s .before .before .args in
     let w = now (at .shares) in
-    let ok = sym (s .sound .ensures .0) ∙ not-false (s .sound .result) (c .before .before .before .before .before .if1 .left) in
-    c .refuse3 .ensures w [] ∙ withdraw-free (at .t1) w (s .sound .ensures .1) ok (at .slot) (c .before .if3 .taken)
+    let ok = sym (s .sound .ensures .0) ∙ not-false (s .sound .result) (c .before .before .before .before .before .before .if1 .left) in
+    c .refuse3 .ensures w [] ∙ withdraw-free (at .self) w (s .sound .ensures .1) ok (at .slot) (c .before .if3 .taken)
 
 returns-4 : tie.Need-returns-4
 unfolding free
 returns-4 c =
     let k = c .before .before .before in
-    let u = k .before .before .before in
+    let u = k .before .before .before .before in
     let s = u .before .before in
     let at = s .before .before .args in
     let w = now (at .shares) in
     let ok = sym (s .sound .ensures .0) ∙ not-false (s .sound .result) (u .before .if1 .left) in
     let few = u .if2 .left in
     let some = k .if3 .left in
-    c .refuse4 .ensures w [] ∙ withdraw-pending (at .t1) w (s .sound .ensures .1) ok (at .slot) (omega arith) (omega arith) (c .before .if4 .taken)
+    c .refuse4 .ensures w [] ∙ withdraw-pending (at .self) w (s .sound .ensures .1) ok (at .slot) (omega arith) (omega arith) (c .before .if4 .taken)
 
 sub-used : tie.Need-sub-used
 unfolding free
 sub-used c =
-    let k = c .before .before .before in
-    let u = k .before .before .before in
+    let k = c .before .before .before .before in
+    let u = k .before .before .before .before in
     let s = u .before .before in
     let at = s .before .before .args in
     let w = now (at .shares) in
     let ok = sym (s .sound .ensures .0) ∙ not-false (s .sound .result) (u .before .if1 .left) in
     let few = u .if2 .left in
     let some = k .if3 .left in
-    let bit = c .bit-of .ensures in
-    omega (arith, bit-held (at .t1) w (s .sound .ensures .1) ok (at .slot) (omega arith) (omega arith))
+    let bit = c .before .bit-of .ensures in
+    omega (arith, bit-held (at .self) w (s .sound .ensures .1) ok (at .slot) (omega arith) (omega arith))
 
 returns-5 : tie.Need-returns-5
 unfolding free
 returns-5 c =
-    let k = c .before .before .before .before in
-    let u = k .before .before .before in
+    let k = c .before .before .before .before .before in
+    let u = k .before .before .before .before in
     let s = u .before .before in
     let at = s .before .before .args in
     let w = now (at .shares) in
     let ok = sym (s .sound .ensures .0) ∙ not-false (s .sound .result) (u .before .if1 .left) in
     let few = u .if2 .left in
     let some = k .if3 .left in
-    let idle = c .before .before .if4 .left in
-    let bit = c .before .bit-of .ensures in
+    let idle = c .before .before .before .if4 .left in
+    let bit = c .before .before .bit-of .ensures in
     let wide = s .sound .ensures .1 in
-    let there = bit-held (at .t1) w wide ok (at .slot) (omega arith) (omega arith) in
-    rw (c .with-slot .ensures) (withdraw-done (at .t1) w wide ok (at .slot) (omega arith) (omega arith) idle (at .t1 .used - c .before .bit-of .result) (omega arith))
+    let there = bit-held (at .self) w wide ok (at .slot) (omega arith) (omega arith) in
+    rw (c .with-slot .ensures) (withdraw-done (at .self) w wide ok (at .slot) (omega arith) (omega arith) idle (at .self .used - c .before .before .bit-of .result) (omega arith))
 
 pub withdraw-spec : {M : Type 1} → statement M
 withdraw-spec =
@@ -92,7 +92,7 @@ withdraw-spec =
     (λ c κs. search needs)  -- refuse-requires-2
     returns-2
     (λ c. search needs)  -- mul-task
-    (λ c. search needs)  -- element-copy-out-task
+    (λ c. search needs)  -- array-copy-out-task
     (λ c κs. search needs)  -- refuse-requires-3
     returns-3
     (λ c κs. search needs)  -- refuse-requires-4

@@ -1,5 +1,5 @@
--- `joined` is a bitwise or: at least each of its numbers, and within 32 bits where all of them are.
--- So it passes the test beside any further number exactly where all four do.
+-- `joined` is a bitwise or: at least each of its numbers, and within 32 bits where both are.
+-- So it passes the test beside any further number exactly where both do.
 use Prim.Native.Nat.{max}
 use native.Mathlib.Omega.{arith}
 use lib.Bits.{bitOr}
@@ -11,14 +11,10 @@ use Rattle.station.proofs.read.joined.Tie as tie
 returns : tie.Need-returns
 returns c more =
     let a = c .args in
-    let one = bitOr (a .all) (a .period) in
-    let two = bitOr (a .cost) (a .rate) in
-    let first = or-least (a .all) (a .period) in
-    let second = or-least (a .cost) (a .rate) in
-    let whole = or-least one two in
-    same-test (max (bitOr one two) more) (max (a .all) (max (a .period) (max (a .cost) (max (a .rate) more)))) mostField
+    let least = or-least (a .all) (a .word) in
+    same-test (max (bitOr (a .all) (a .word)) more) (max (a .all) (max (a .word) more)) mostField
     (λ h. omega arith)
-    (λ h. let small = or-most one two (or-most (a .all) (a .period) (omega arith) (omega arith)) (or-most (a .cost) (a .rate) (omega arith) (omega arith)) in omega arith)
+    (λ h. let small = or-most (a .all) (a .word) (omega arith) (omega arith) in omega arith)
 
 pub joined-spec : {M : Type 1} → statement M
 joined-spec = tie.close (tie.spec returns)
