@@ -1,5 +1,5 @@
 -- The new job's shares, row by row: each slice's row is raised by rate times length where it ends at or before d, and by 0 elsewhere.
--- As ends rise, the giving that stops at the first later end and the giving of 0 from there on are the same.
+-- Ends rise, so from the first slice that ends after d on nothing is given.
 use mathlib.Core.Path.{_≡_, refl, sym, ap, _∙_}
 use mathlib.Core.Bool.{cond}
 use mathlib.Core.List.{List, [], _∷_}
@@ -7,7 +7,7 @@ use Prim.Native.Nat.{ℕ, zero, suc, _+_, _-_, _*_, _≤_, _<_}
 use native.Mathlib.Nat.{not-suc-le-zero, le-of-suc-le-suc, add-zero}
 use native.Mathlib.Omega.{arith}
 use lib.Dec.{leb}
-use lib.ListN.{length, getD, set}
+use lib.ListN.{length, drop, getD, set, take-append-drop}
 use lib.Seq.{set-getD}
 use borrow.Author.Tests.{le-leb, lt-leb}
 use Rattle.rules.specs.Station.{Slice}
@@ -59,6 +59,15 @@ module _ (slot rate d : ℕ) where
   given-row lo (s ∷ ss) (suc n) zero r h l = rw (given-next lo s ss (r .1))
   given-row lo (s ∷ ss) (suc n) (suc k) r h l = rw (given-next lo s ss (r .1), begin-next k (s .end) (endsIn n ss)) (given-row (s .end) ss n k (r .1) (le-of-suc-le-suc h) (le-of-suc-le-suc l))
 
+  -- from a slice that ends after d on, the rows are as they were
+  given-kept : (lo : ℕ) (ss : List Slice) (n k : ℕ) → Each Rises lo ss → length ss ≤ n → k < length ss → d < getD (endsIn n ss) k 0
+      → drop k (rowsIn n (given slot rate d lo ss)) ≡ drop k (rowsIn n ss)
+  unfolding endsIn rowsIn given
+  given-kept lo [] n k r h l after = absurd (not-suc-le-zero l)
+  given-kept lo (s ∷ ss) zero k r h l after = absurd (not-suc-le-zero h)
+  given-kept lo (s ∷ ss) (suc n) zero r h l after = rw (lt-leb (s .end) d after)
+  given-kept lo (s ∷ ss) (suc n) (suc k) r h l after = rw (given-next lo s ss (r .1)) (given-kept (s .end) ss n k (r .1) (le-of-suc-le-suc h) (le-of-suc-le-suc l) after)
+
   -- The loop over the rows of the slices ss that are held: the first k are raised, the others as they were.
   module _ {ss : List Slice} {ends : List ℕ} {count : ℕ} {words : List ℕ} (p : Planned ss ends count words) {start : ℕ} (r : Ready start ss) where
     module _ {k : ℕ} (now : List ℕ) (m : Mixed (rowsIn 64 (given slot rate d start ss)) (rowsOf 64 words) k (rowsOf 64 now)) (l : k < count) where
@@ -79,9 +88,19 @@ module _ (slot rate d : ℕ) where
           mixed-more [] m (raised (beginOf start k ends) (getD ends k 0) (rowAt k now)) (omega (arith, wide)) (omega (arith, wide))
           (rw (ahead, p .bounds, p .rows) (sym (given-row start ss 64 k (r .rising) (r .few) (wide .0))))
 
-    pub given-all : {now : List ℕ} → Mixed (rowsIn 64 (given slot rate d start ss)) (rowsOf 64 words) count (rowsOf 64 now) → Planned (given slot rate d start ss) ends count now
-    given-all m = record {
+    given-held : {now : List ℕ} → rowsOf 64 now ≡ rowsIn 64 (given slot rate d start ss) → Planned (given slot rate d start ss) ends count now
+    given-held rows = record {
       bounds = p .bounds ∙ sym (given-bounds start ss 64 (r .rising));
       number = p .number ∙ sym (given-length start ss);
-      rows = m .is ∙ rw (p .number, p .rows) (sym (padded-same rows-padded ss (given slot rate d start ss) 64 (given-length start ss) (r .few)));
+      rows = rows;
     }
+
+    -- the loop ends after the last slice, or at the first one that ends after d
+    pub given-all : {now : List ℕ} → Mixed (rowsIn 64 (given slot rate d start ss)) (rowsOf 64 words) count (rowsOf 64 now) → Planned (given slot rate d start ss) ends count now
+    given-all m = given-held (m .is ∙ rw (p .number, p .rows) (sym (padded-same rows-padded ss (given slot rate d start ss) 64 (given-length start ss) (r .few))))
+
+    pub given-stop : {k : ℕ} {now : List ℕ} → Mixed (rowsIn 64 (given slot rate d start ss)) (rowsOf 64 words) k (rowsOf 64 now) → k < count → d < getD ends k 0
+        → Planned (given slot rate d start ss) ends count now
+    given-stop {k} m l after =
+        let kept = given-kept start ss 64 k (r .rising) (r .few) (omega (arith, p .number)) (rw (p .bounds) at after) in
+        given-held (m .is ∙ rw (p .rows, ← kept) (take-append-drop k (rowsIn 64 (given slot rate d start ss))))

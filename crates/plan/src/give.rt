@@ -1,22 +1,21 @@
 use table::row::row_add;
 ghost use mathlib.Core.Path.{_≡_};
-ghost use mathlib.Core.Bool.{cond};
 ghost use Prim.Native.Nat.{_+_, _-_, _*_, _≤_, _<_};
-ghost use lib.Dec.{leb};
 ghost use lib.ListN.{length, drop};
 ghost use Rattle.rules.specs.Station.{longestPeriod, slotCount, rowCount, shareWords};
 ghost use Rattle.rules.specs.Release.{given};
 ghost use Rattle.plan.specs.Planned.{Planned, Ready, slicesIn};
 
-// What a job of this rate and deadline gets in a slice from lo to end: rate times length where the slice ends at or before d.
-fn gift(rate: u64, d: u64, lo: u64, end: u64) -> u64
-    requires { ⌜ (rate ≤ 1000) × (lo ≤ end) × (d ≤ lo + longestPeriod) ⌝ }
-    ensures { λ r. ⌜ (r ≡ cond (leb end d) (rate * (end - lo)) 0) × (r ≤ 60000000) ⌝ }
+// What a job of this rate gets in a slice from lo to end: rate times length.
+fn gift(rate: u64, lo: u64, end: u64) -> u64
+    requires { ⌜ (rate ≤ 1000) × (lo ≤ end) × (end ≤ lo + longestPeriod) ⌝ }
+    ensures { λ r. ⌜ (r ≡ rate * (end - lo)) × (r ≤ 60000000) ⌝ }
 {
-    if end <= d { rate * (end - lo) } else { 0 }
+    rate * (end - lo)
 }
 
-// "The new job gets rate times length in each slice that ends at or before d." The first slice begins at start.
+// "The new job gets rate times length in each slice that ends at or before d." The first slice begins at start. Ends rise, so the
+// first that is after d ends the giving.
 pub fn give(
     shares: &mut [u32],
     ends: &[u64],
@@ -32,7 +31,10 @@ pub fn give(
     let mut lo = start;
     for k in 0..count {
         let end = ends[k];
-        row_add(shares, k, slot, gift(rate, d, lo, end));
+        if d < end {
+            return;
+        }
+        row_add(shares, k, slot, gift(rate, lo, end));
         lo = end;
     }
 }

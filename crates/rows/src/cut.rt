@@ -2,7 +2,7 @@ use crate::SLOTS;
 use crate::word::narrow;
 use crate::word::wide;
 ghost use mathlib.Core.Path.{_≡_};
-ghost use Prim.Native.Nat.{_*_, _≤_};
+ghost use Prim.Native.Nat.{_+_, _*_, _≤_};
 ghost use lib.ListN.{length};
 ghost use Rattle.rules.specs.Station.{slotCount};
 ghost use Rattle.rules.specs.Slices.{firstTo, firstPart, secondPart};
@@ -16,6 +16,18 @@ fn reach(e: u64, part: u64, span: u64) -> u64
     e * part / span
 }
 
+// The same one share after the first e grains, of which the first part gets `was`: a share of nothing needs no division.
+fn reached(was: u64, e: u64, share: u64, part: u64, span: u64) -> u64
+    requires { ⌜ Cut part span × (e + share ≤ slotCount * 4294967295) × (was ≡ firstTo part span e) ⌝ }
+    ensures { λ r. ⌜ r ≡ firstTo part span (e + share) ⌝ }
+{
+    if share == 0 {
+        was
+    } else {
+        reach(e + share, part, span)
+    }
+}
+
 // A row becomes the row of the first part of its slice, which has `span` ticks and is cut after its first `part`.
 pub fn cut_first(row: &mut [u32], part: u64, span: u64)
     requires { ⌜ (length (now row) ≡ slotCount) × Cut part span ⌝ }
@@ -24,8 +36,9 @@ pub fn cut_first(row: &mut [u32], part: u64, span: u64)
     let mut e: u64 = 0;
     let mut was: u64 = 0;
     for i in 0..SLOTS {
-        e += wide(row[i]);
-        let to = reach(e, part, span);
+        let share = wide(row[i]);
+        let to = reached(was, e, share, part, span);
+        e += share;
         row[i] = narrow(to - was);
         was = to;
     }
@@ -40,8 +53,8 @@ pub fn cut_rest(row: &mut [u32], part: u64, span: u64)
     let mut was: u64 = 0;
     for i in 0..SLOTS {
         let share = wide(row[i]);
+        let to = reached(was, e, share, part, span);
         e += share;
-        let to = reach(e, part, span);
         row[i] = narrow(share - (to - was));
         was = to;
     }

@@ -4,14 +4,16 @@ use mathlib.Core.Path.{_≡_, refl, _∙_}
 use Prim.Native.Nat.{_-_, _≤_}
 use native.Mathlib.Numerals.{add-one}
 use native.Mathlib.Omega.{arith}
-use lib.ListN.{length, drop}
+use lib.ListN.{length, drop, getD}
 use borrow.Author.Needs.{needs}
+use borrow.Author.Tests.{le-leb}
+use denote.Ref.{now}
 use Rattle.rules.specs.Release.{given}
 use Rattle.rules.specs.Words.{rowsOf, rowsIn}
 use Rattle.rows.proofs.Moves.{Mixed, mixed-none}
 use Rattle.plan.specs.Planned.{slicesIn, beginOf}
 use Rattle.plan.proofs.Planned.{ready-at}
-use Rattle.plan.proofs.Given.{given-fits, given-more, given-all}
+use Rattle.plan.proofs.Given.{given-fits, given-more, given-all, given-stop}
 use Rattle.plan.proofs.give.give.Statement.{statement}
 use Rattle.plan.proofs.give.give.Tie as tie
 
@@ -27,16 +29,23 @@ loop-holds : tie.Need-loop-holds Inv-loop μ-loop
 unfolding beginOf
 loop-holds c = (search needs, refl, search needs, search needs, mixed-none _ _)
 
-gift-requires : tie.Need-gift-requires Inv-loop μ-loop
-gift-requires c κs =
+returns : tie.Need-returns Inv-loop μ-loop
+returns c =
     let k = c .before .before .before in
     let s = k .before .before .before in
+    let at = s .args in
+    (given-stop (at .slot) (at .rate) (at .d) (s .pre .2) (s .pre .3) (k .loop .inv .4) (omega arith) (omega arith), k .loop .inv .3)
+
+gift-requires : tie.Need-gift-requires Inv-loop μ-loop
+gift-requires c κs =
+    let k = c .before .before .before .before in
+    let s = k .before .before .before in
     let here = ready-at (s .pre .2) (s .pre .3) (k .loop .k) (omega arith) in
-    omega (arith, here .from, here .rises, k .loop .inv .1)
+    (s .pre .5, omega (arith, here .rises, k .loop .inv .1), omega (arith, here .from, here .soon, k .loop .inv .1))
 
 row-add-requires : tie.Need-row-add-requires Inv-loop μ-loop
 row-add-requires c κs =
-    let k = c .before .before .before .before in
+    let k = c .before .before .before .before .before in
     let s = k .before .before .before in
     let at = s .args in
     let few : at .count ≤ 64 = omega (arith, s .pre .2 .number, s .pre .3 .few) in
@@ -46,19 +55,20 @@ row-add-requires c κs =
 loop-again : tie.Need-loop-again Inv-loop μ-loop
 unfolding beginOf
 loop-again c =
-    let k = c .before .before .before .before .before .before .before in
+    let k = c .before .before .before .before .before .before .before .before in
     let s = k .before .before .before in
     let at = s .args in
-    let got = c .before .before .row-add .ensures in (
+    let got = c .before .before .row-add .ensures in
+    let more = given-more (at .slot) (at .rate) (at .d) (s .pre .2) (s .pre .3) (k .loop .shares) (k .loop .inv .4) (omega arith) in (
       search needs,
       rw add-one,
       search needs,
       got .past ∙ k .loop .inv .3,
-      rw (got .rows, c .before .before .before .gift .ensures .0, k .loop .inv .1) (given-more (at .slot) (at .rate) (at .d) (s .pre .2) (s .pre .3) (k .loop .shares) (k .loop .inv .4) (omega arith)),
+      rw (got .rows, c .before .before .before .gift .ensures .0, k .loop .inv .1) (rw (le-leb (getD (now (at .ends)) (k .loop .k) 0) (at .d) (omega arith)) at more),
     )
 
-returns : tie.Need-returns Inv-loop μ-loop
-returns c =
+returns-2 : tie.Need-returns-2 Inv-loop μ-loop
+returns-2 c =
     let k = c .before in
     let s = k .before .before .before in
     let at = s .args in
@@ -74,10 +84,12 @@ give-spec =
     loop-holds
     (λ c. search needs)  -- mul-end
     (λ c. search needs)  -- shared-slice-read-end
+    (λ c. search needs)  -- same-length
+    returns
     gift-requires
     row-add-requires
     (λ c. search needs)  -- add-k
     (λ c. search needs)  -- loop-less
     loop-again
-    (λ c. search needs)  -- same-length
-    returns)
+    (λ c. search needs)  -- same-length-2
+    returns-2)

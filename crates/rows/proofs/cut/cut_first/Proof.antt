@@ -53,8 +53,8 @@ cut-first-spec =
     (λ c. search needs)  -- mul-wide
     (λ c. search needs)  -- slice-read-wide
     (λ c κs. search needs)  -- wide-requires
+    (λ c κs. search needs)  -- reached-requires
     (λ c. search needs)  -- add-e
-    (λ c κs. search needs)  -- reach-requires
     sub-narrow
     narrow-requires
     (λ c. search needs)  -- mul-row

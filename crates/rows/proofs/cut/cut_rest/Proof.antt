@@ -57,8 +57,8 @@ cut-rest-spec =
     (λ c. search needs)  -- mul-wide
     (λ c. search needs)  -- slice-read-wide
     (λ c κs. search needs)  -- wide-requires
+    (λ c κs. search needs)  -- reached-requires
     (λ c. search needs)  -- add-e
-    (λ c κs. search needs)  -- reach-requires
     sub-narrow
     sub-narrow-2
     (λ c κs. search needs)  -- narrow-requires
