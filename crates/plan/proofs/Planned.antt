@@ -13,7 +13,11 @@ use Rattle.rules.specs.Words.{rowsOf, rowAt, Rowed, movedUp, slicesOf, rowsIn}
 use Rattle.table.proofs.Rowed.{length-rowsOf}
 use Rattle.table.proofs.Zeros.{zero-rows}
 use Rattle.plan.specs.Planned.{Planned, Ready, endsIn, slicesIn, takenOut, beginOf}
-use Rattle.plan.proofs.Padded.{ends-padded, rows-padded, padded-drop}
+use Rattle.plan.proofs.Padded.{ends-padded, rows-padded, padded-length, padded-drop}
+
+-- boundaries that hold slices are 64 words
+pub planned-long : {ss : List Slice} {ends : List ℕ} {count : ℕ} {words : List ℕ} → Planned ss ends count words → length ends ≡ 64
+planned-long {ss} p = rw (p .bounds) (padded-length ends-padded 64 ss)
 
 slices-in : (ss : List Slice) (n : ℕ) → length ss ≤ n → slicesOf (take (length ss) (endsIn n ss)) (rowsIn n ss) ≡ ss
 unfolding slicesOf endsIn rowsIn

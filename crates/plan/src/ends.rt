@@ -25,30 +25,26 @@ pub fn place(ends: &[u64], count: usize, d: u64) -> usize
 }
 
 // d put in at place k: the boundaries from k on move one place on.
-pub fn put_in(ends: [u64; 64], k: usize, count: usize, d: u64) -> [u64; 64]
-    requires { ⌜ (k ≤ count) × (count < rowCount) ⌝ }
-    ensures { λ r. ⌜ r ≡ putIn k count d ends ⌝ }
+pub fn put_in(ends: &mut [u64], k: usize, count: usize, d: u64)
+    requires { ⌜ (length (now ends) ≡ rowCount) × (k ≤ count) × (count < rowCount) ⌝ }
+    ensures { λ _. ⌜ now (ends .exit) ≡ putIn k count d (now (ends .entry)) ⌝ }
 {
-    let mut next = ends;
     let mut j = count;
     while k < j {
-        next[j] = next[j - 1];
+        ends[j] = ends[j - 1];
         j -= 1;
     }
-    next[k] = d;
-    next
+    ends[k] = d;
 }
 
 // The first boundary taken out: the others move one place up, and the last becomes zero.
-pub fn take_out(ends: [u64; 64], count: usize) -> [u64; 64]
-    requires { ⌜ (0 < count) × (count ≤ rowCount) ⌝ }
-    ensures { λ r. ⌜ r ≡ takenOut count ends ⌝ }
+pub fn take_out(ends: &mut [u64], count: usize)
+    requires { ⌜ (length (now ends) ≡ rowCount) × (0 < count) × (count ≤ rowCount) ⌝ }
+    ensures { λ _. ⌜ now (ends .exit) ≡ takenOut count (now (ends .entry)) ⌝ }
 {
-    let mut next = ends;
     let last = count - 1;
     for k in 0..last {
-        next[k] = next[k + 1];
+        ends[k] = ends[k + 1];
     }
-    next[last] = 0;
-    next
+    ends[last] = 0;
 }

@@ -1,23 +1,23 @@
 -- How a call comes out: refusal 1 for a table that is not sound; the number of the first reason that holds, with everything as it was; or
 -- what the rules accept.
-use mathlib.Core.Path.{_≡_, refl, ap, sym, _∙_}
-use mathlib.Core.Bool.{Bool, true, false, cond, not, _||_}
-use mathlib.Core.List.{List, [], _∷_, _++_}
-use Prim.Native.Nat.{ℕ, zero, suc, _*_, _≤_, _<_}
+use mathlib.Core.Path.{_≡_, refl, sym}
+use mathlib.Core.Bool.{true, false}
+use mathlib.Core.List.{List, [], _++_}
+use Prim.Native.Nat.{ℕ, zero, suc, _<_}
 use native.Mathlib.Nat.{not-suc-le-zero}
 use native.Mathlib.Omega.{arith}
-use lib.Dec.{ltb}
 use lib.ListN.{length, drop}
 use borrow.Author.Tests.{le-ltb}
-use Rattle.rules.specs.Station.{Table, shareWords}
-use Rattle.rules.specs.Sound.{isSound}
-use Rattle.rules.specs.Calls.{Call, Outcome, refusal, refused, refusals, unsound, accepted, decided, step, Reason}
+use Rattle.rules.specs.Station.{rowCount, shareWords}
+use Rattle.rules.specs.Calls.{Call, refusal, refused, refusals, unsound, accepted, decided, step}
 use Rattle.rules.specs.Words.{wordsOf, written, segmentsFlat}
+use Rattle.rules.proofs.Floor.{by-bool}
 use Rattle.rules.proofs.Sound.{sound-from}
 use Rattle.planner.specs.declared.Planner.{Planner}
 use Rattle.planner.specs.declared.Answer.the-variants.{Refused}
 use Rattle.planner.specs.Held.{Agrees, tableOf, plannerOf, isSoundIn, answerOf, Left, unchanged, heldAs, called}
-use Rattle.planner.proofs.Joint.{same-planner, same-words}
+use Rattle.planner.specs.Reasons.{numberFor}
+use Rattle.planner.proofs.Joint.{agrees, same-planner, same-words}
 
 -- a refusal's number, as document 01 has it
 pub refused-answer : (n : ℕ) → 0 < n → answerOf (Refused n) ≡ refusal n
@@ -56,3 +56,29 @@ module _ {p : Planner} {w : List ℕ} (ok : isSoundIn p w ≡ true) (a : Agrees 
   pub called-done : refused (refusals (length w) (tableOf p w) call) ≡ 0 → heldAs w b (accepted (tableOf p w) call) ≡ called p w b call
   unfolding called step decided
   called-done e = rw (ok, e)
+
+-- by its number
+module _ (p : Planner) (w : List ℕ) (call : Call) where
+  pub number-unsound : isSoundIn p w ≡ false → 1 ≡ numberFor p w call
+  unfolding numberFor
+  number-unsound bad = rw bad
+
+  number-sound : numberFor p w call ≡ 0 → isSoundIn p w ≡ true
+  unfolding numberFor
+  number-sound z = by-bool (isSoundIn p w) (λ e. e) (λ e. let one : _≡_ {A = ℕ} 1 0 = rw e at z in absurd (omega arith))
+
+  module _ (wide : length (p .ends) ≡ rowCount) where
+    pub number-agrees : numberFor p w call ≡ 0 → (isSoundIn p w ≡ true) × Agrees p w
+    number-agrees z = let ok = number-sound z in (ok, agrees p w wide ok)
+
+    pub number-refused : (n : ℕ) → n ≡ numberFor p w call → (n ≡ 0 → ⊥) → (b : List ℕ) → unchanged n p w b ≡ called p w b call
+    unfolding numberFor
+    number-refused zero e some b = absurd (some refl)
+    number-refused (suc m) e some b =
+        by-bool (isSoundIn p w)
+        (λ ok. called-refused ok (agrees p w wide ok) b call m (sym (rw ok at e)))
+        (λ bad. let one : suc m ≡ 1 = rw bad at e in rw one (called-unsound p w b call bad))
+
+pub number-done : {p : Planner} {w : List ℕ} → isSoundIn p w ≡ true → Agrees p w → (b : List ℕ) (call : Call) → numberFor p w call ≡ 0 → heldAs w b (accepted (tableOf p w) call) ≡ called p w b call
+unfolding numberFor
+number-done ok a b call z = called-done ok a b call (rw ok at z)

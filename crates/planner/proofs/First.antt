@@ -6,7 +6,7 @@ use Prim.Native.Nat.{ℕ, _+_, _-_, _*_, _≤_, _<_}
 use native.Mathlib.Nat.{mul-le-mul-left}
 use native.Mathlib.Omega.{arith}
 use lib.ListN.{take, drop, getD}
-use Rattle.rules.specs.Station.{Slice, Table, grains, lastTick, mostCores, longestPeriod, sum}
+use Rattle.rules.specs.Station.{Slice, Table, grains, mostCores, longestPeriod, sum}
 use Rattle.rules.specs.Wrap.{segmentsTo, window, wrapOf}
 use Rattle.rules.specs.Words.{rowsOf, rowsIn}
 use Rattle.rules.specs.Sound.{Sound, owed}
@@ -19,15 +19,16 @@ use Rattle.wrap.specs.Asked.{Laid}
 use Rattle.wrap.specs.Shown.{shown}
 use Rattle.planner.specs.declared.Planner.{Planner}
 use Rattle.planner.specs.Held.{Agrees, tableOf}
+use Rattle.planner.specs.Front.{Front}
 
 -- the first slice, from the first boundary and the first row
 abbrev pub frontOf : List ℕ → List ℕ → Slice
 frontOf ends w = record { end = getD ends 0 0; shares = take 64 w }
 
-front : {ss : List Slice} {ends : List ℕ} {count : ℕ} {w : List ℕ} → Planned ss ends count w → 0 < count → ss ≡ frontOf ends w ∷ drop 1 ss
+slices-front : {ss : List Slice} {ends : List ℕ} {count : ℕ} {w : List ℕ} → Planned ss ends count w → 0 < count → ss ≡ frontOf ends w ∷ drop 1 ss
 unfolding endsIn rowsIn rowsOf
-front {ss = []} p some = absurd (omega (arith, p .number))
-front {ss = s ∷ ss} {ends} {count} {w} p some =
+slices-front {ss = []} p some = absurd (omega (arith, p .number))
+slices-front {ss = s ∷ ss} {ends} {count} {w} p some =
     let end : getD ends 0 0 ≡ s .end = rw (p .bounds) in
     let row : take 64 w ≡ s .shares = ap (λ rs. getD rs 0 []) (p .rows) in
     rw (end, row)
@@ -35,10 +36,7 @@ front {ss = s ∷ ss} {ends} {count} {w} p some =
 -- what is known of slice 0
 pub record First (p : Planner) (w : List ℕ) : Type 0 where
   pub slices : tableOf p w .slices ≡ frontOf (p .ends) w ∷ drop 1 (tableOf p w .slices)
-  pub start : p .start ≤ p .clock
-  pub clock : p .clock ≤ lastTick
-  pub ahead : p .clock < getD (p .ends) 0 0
-  pub soon : getD (p .ends) 0 0 ≤ p .start + longestPeriod
+  pub front : Front (p .start) (p .clock) (getD (p .ends) 0 0) w
   pub laid : Laid (grains (getD (p .ends) 0 0 - p .start)) (take 64 w)
   pub fits : sum (take 64 w) ≤ mostCores * grains (getD (p .ends) 0 0 - p .start)
   pub cores : p .cores ≤ mostCores
@@ -56,7 +54,7 @@ module _ {p : Planner} {w : List ℕ} (a : Agrees p w) (some : 0 < p .count) whe
   first =
       let t = tableOf p w in
       let sound = a .sound in
-      let e : t .slices ≡ frontOf (p .ends) w ∷ drop 1 (t .slices) = front (a .planned) some in
+      let e : t .slices ≡ frontOf (p .ends) w ∷ drop 1 (t .slices) = slices-front (a .planned) some in
       let r = ready t sound in
       let ahead = rw e at (first-ahead t sound) in
       let soon = rw e at (r .soon) in
@@ -66,16 +64,18 @@ module _ {p : Planner} {w : List ℕ} (a : Agrees p w) (some : 0 < p .count) whe
       let from : p .start ≤ p .clock = sound .start in
       let after : p .clock < getD (p .ends) 0 0 = ahead .0 in
       let by : getD (p .ends) 0 0 ≤ p .start + longestPeriod = soon .0 in
+      let laid : Laid (grains (getD (p .ends) 0 0 - p .start)) (take 64 w) = record { some = omega arith; most = omega arith; small = small .0; long = columns .0 } in
+      let room = slice-fits t (frontOf (p .ends) w) sound (fits .0) in
       record {
         slices = e;
-        start = from;
-        clock = sound .clock;
-        ahead = after;
-        soon = by;
-        laid = record { some = omega arith; most = omega arith; small = small .0; long = columns .0 };
-        fits = slice-fits t (frontOf (p .ends) w) sound (fits .0);
+        front = record { long = a .long; begun = from; range = sound .clock; ahead = after; soon = by; laid = laid; fits = room };
+        laid = laid;
+        fits = room;
         cores = sound .cores .1;
       }
+
+  pub front : Front (p .start) (p .clock) (getD (p .ends) 0 0) w
+  front = first .front
 
   -- the segments that an advance hands back are those that the window shows
   pub segments-shown : (to : ℕ) → segmentsTo (tableOf p w) to

@@ -1,16 +1,15 @@
 -- A planner and words that are sound are exactly the planner and the words of their table: nothing is lost between the two.
 -- The check's last tests say that what the table leaves out (the word of slots in use, boundaries and rows past the last) agrees with it.
-use mathlib.Core.Path.{_≡_, refl, ap, sym, _∙_}
+use mathlib.Core.Path.{_≡_, sym}
 use mathlib.Core.Bool.{true}
-use mathlib.Core.List.{List, [], _∷_, _++_}
-use Prim.Native.Nat.{ℕ, _*_, _≤_, _<_}
-use native.Mathlib.Omega.{arith}
+use mathlib.Core.List.{List, _++_}
+use Prim.Native.Nat.{ℕ, _≤_}
 use lib.ListN.{length, drop}
-use Rattle.rules.specs.Station.{Table, rowCount, shareWords}
-use Rattle.rules.specs.Sound.{Sound, isSound}
-use Rattle.rules.specs.Words.{rowsOf, rowsIn, flat, wordsOf}
+use Rattle.rules.specs.Station.{lastTick, mostCores, rowCount, shareWords}
+use Rattle.rules.specs.Sound.{isSound}
+use Rattle.rules.specs.Words.{wordsOf}
 use Rattle.sound.specs.Lent.{usedOf, tableAt, isSoundAt}
-use Rattle.plan.specs.Planned.{Planned, slicesIn, endsIn}
+use Rattle.plan.specs.Planned.{slicesIn, endsIn}
 use borrow.Author.Tests.{leb-true, eqb-true}
 use Rattle.rules.proofs.Sound.{every-to, sound-to}
 use Rattle.plan.proofs.Planned.{held as slices-held}
@@ -53,3 +52,11 @@ module _ {p : Planner} {w : List ℕ} (a : Agrees p w) where
   pub same-words : wordsOf (tableOf p w) ++ drop shareWords w ≡ w
   unfolding wordsOf tableOf tableAt slicesIn
   same-words = rw (← (a .planned .rows)) (sym (rowsOf-all rowCount w))
+
+  pub clock-range : p .clock ≤ lastTick
+  unfolding tableOf tableAt
+  clock-range = a .sound .clock
+
+  pub cores-range : p .cores ≤ mostCores
+  unfolding tableOf tableAt
+  cores-range = a .sound .cores .1

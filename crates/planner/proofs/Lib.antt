@@ -2,6 +2,7 @@ pub mod Used
 pub mod Joint
 pub mod Called
 pub mod Slotted
+pub mod Reasons
 pub mod Withdrawn
 pub mod Opening
 pub mod Declaring

@@ -1,25 +1,27 @@
 -- Holder: what a look at slice 0 finds is what the rules answer, and no segment ends after the slice, so its end can be told in grains.
 -- The answer is the first segment that holds the core, so a bound of all segments' ends is a bound of it.
-use mathlib.Core.Path.{_≡_, refl, sym, _∙_}
-use mathlib.Core.Bool.{true, false}
+use mathlib.Core.Path.{_≡_, sym}
+use mathlib.Core.Bool.{true, false, cond}
 use mathlib.Core.List.{List, [], _∷_}
 use Prim.Native.Nat.{ℕ, suc, _+_, _-_, _≤_, _<_}
 use native.Mathlib.Omega.{arith}
+use lib.Dec.{leb}
 use lib.ListN.{take, getD}
-use borrow.Author.Tests.{le-leb, lt-leb}
-use Rattle.rules.specs.Station.{grains}
+use borrow.Author.Tests.{eq-eqb, ne-eqb}
+use Rattle.rules.specs.Station.{grains, slotCount}
 use Rattle.rules.specs.Wrap.{Segment, wrap, wrapOf, onCore, onNext, holds}
 use Rattle.rules.specs.Advance.{Holding, held, idleUntil, idle, heldIn, idleIn, holderOf}
 use Rattle.rules.specs.Calls.{withdraw, refused, holderRefusals, holderNumber}
-use Rattle.rules.proofs.Floor.{by-bool, parts}
+use Rattle.rules.proofs.Floor.{by-bool, by-eq, parts}
 use Rattle.sound.specs.Lent.{tableAt}
 use Rattle.wrap.specs.declared.holder.Found.{Found}
 use Rattle.wrap.specs.declared.holder.Found.the-variants.{Held}
 use Rattle.wrap.specs.Found.{holdingOf}
 use Rattle.planner.specs.declared.Planner.{Planner}
-use Rattle.planner.specs.declared.Holder.the-variants.{Idle, Refused}
+use Rattle.planner.specs.declared.Holder.the-variants.{Refused}
 use Rattle.planner.specs.Held.{Agrees, tableOf, isSoundIn}
-use Rattle.planner.specs.Holding.{toldBy, toldIf, told}
+use Rattle.planner.specs.Front.{Front}
+use Rattle.planner.specs.Holding.{toldBy, toldIf, told, heldFront, heldNow}
 use Rattle.planner.proofs.Called.{not-unsound}
 use Rattle.planner.proofs.First.{first}
 use Rattle.planner.proofs.Onward.{none}
@@ -51,45 +53,34 @@ module _ (base core grain : ℕ) (none : Holding) (T : ℕ) (some : 0 < T) (idle
       let rest = wrap T (suc slot) (e + s) ss in
       ends-one (onCore T slot e s) (onNext T slot e s ∷ rest) (core-by T slot e s) (ends-one (onNext T slot e s) rest (next-by T some slot e s (small 0)) (ends-by (suc slot) (e + s) ss (λ i. small (suc i))))
 
-module _ {p : Planner} {w : List ℕ} (ok : isSoundIn p w ≡ true) (a : Agrees p w) (core : ℕ) where
-  cores-is : tableOf p w .cores ≡ p .cores
-  unfolding tableOf tableAt
-  cores-is = refl
-
-  pub told-thirteen : p .cores ≤ core → toldBy (Refused 13) ≡ told p w core
-  unfolding told toldBy toldIf holderNumber holderRefusals refused
-  told-thirteen h = rw (ok, not-unsound ok a [] (withdraw 0), cores-is, le-leb (p .cores) core h)
-
-  pub told-done : core < p .cores → toldIf 0 (holderOf (tableOf p w) core) ≡ told p w core
-  unfolding told toldIf holderNumber holderRefusals refused
-  told-done h = rw (ok, not-unsound ok a [] (withdraw 0), cores-is, lt-leb (p .cores) core h)
-
 pub told-unsound : (p : Planner) (w : List ℕ) (core : ℕ) → isSoundIn p w ≡ false → toldBy (Refused 1) ≡ told p w core
 unfolding told toldBy
 told-unsound p w core bad = rw bad
 
-module _ {p : Planner} {w : List ℕ} (a : Agrees p w) (core : ℕ) where
-  -- nothing is pending
-  pub holder-none : p .count ≡ 0 → toldBy Idle ≡ toldIf 0 (holderOf (tableOf p w) core)
-  unfolding toldBy toldIf holderOf idleIn wrapOf heldIn
-  holder-none z = rw (none a z)
+-- what a look at slice 0 finds
+module _ {start clock end : ℕ} {w : List ℕ} (f : Front start clock end w) (core : ℕ) (found : Found)
+    (is : (base : ℕ) (none : Holding) → holdingOf base none found ≡ heldIn base core (grains (clock - start)) none (wrap (grains (end - start)) 0 0 (take slotCount w))) where
+  pub found-holds : heldFront start clock end w core ≡ holdingOf (grains start) (idleUntil (grains end)) found
+  unfolding heldFront
+  found-holds = sym (is (grains start) (idleUntil (grains end)))
 
-  -- the look at slice 0
-  pub holder-first : 0 < p .count → holderOf (tableOf p w) core
-      ≡ heldIn (grains (p .start)) core (grains (p .clock - p .start)) (idleUntil (grains (getD (p .ends) 0 0))) (wrap (grains (getD (p .ends) 0 0 - p .start)) 0 0 (take 64 w))
-  unfolding holderOf idleIn wrapOf tableOf tableAt
-  holder-first some = rw (first a some .slices)
+  pub found-by : (slot after : ℕ) → found ≡ Held slot after → after ≤ grains (end - start)
+  found-by slot after e =
+      let T = grains (end - start) in
+      let laid = f .laid in
+      let all = ends-by 0 core (grains (clock - start)) idle T (laid .some) tt 0 0 (take slotCount w) (laid .small) in
+      let here : 0 + after ≤ 0 + T = rw (← (is 0 idle), e) at all in
+      omega arith
 
-  -- what a look at it finds
-  module _ (some : 0 < p .count) (found : Found)
-      (is : (base : ℕ) (none : Holding) → holdingOf base none found ≡ heldIn base core (grains (p .clock - p .start)) none (wrap (grains (getD (p .ends) 0 0 - p .start)) 0 0 (take 64 w))) where
-    pub found-holds : holderOf (tableOf p w) core ≡ holdingOf (grains (p .start)) (idleUntil (grains (getD (p .ends) 0 0))) found
-    found-holds = holder-first some ∙ sym (is (grains (p .start)) (idleUntil (grains (getD (p .ends) 0 0))))
+-- the planner's look is the rules'
+module _ {p : Planner} {w : List ℕ} (ok : isSoundIn p w ≡ true) (a : Agrees p w) (core : ℕ) where
+  holder-now : heldNow (p .count) (p .start) (p .clock) (getD (p .ends) 0 0) w core ≡ holderOf (tableOf p w) core
+  unfolding heldNow heldFront holderOf idleIn wrapOf heldIn tableOf tableAt
+  holder-now =
+      by-eq (p .count) 0
+      (λ z. rw (eq-eqb (p .count) 0 z, none a z))
+      (λ ne. rw (ne-eqb (p .count) 0 ne, first a (omega arith) .slices))
 
-    pub found-by : (slot after : ℕ) → found ≡ Held slot after → after ≤ grains (getD (p .ends) 0 0 - p .start)
-    found-by slot after e =
-        let T = grains (getD (p .ends) 0 0 - p .start) in
-        let laid = first a some .laid in
-        let all = ends-by 0 core (grains (p .clock - p .start)) idle T (laid .some) tt 0 0 (take 64 w) (laid .small) in
-        let here : 0 + after ≤ 0 + T = rw (← (is 0 idle), e) at all in
-        omega arith
+  pub told-now : toldIf (cond (leb (p .cores) core) 13 0) (heldNow (p .count) (p .start) (p .clock) (getD (p .ends) 0 0) w core) ≡ told p w core
+  unfolding told holderNumber holderRefusals refused tableOf tableAt
+  told-now = rw (ok, not-unsound ok a [] (withdraw 0), holder-now)

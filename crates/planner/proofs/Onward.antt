@@ -1,17 +1,16 @@
--- Advance: what is held at a boundary, short of it, and with none is the rules' table after the advance. The reasons come out in
--- document 01's order. Each field of the state and the words is an equation of its own; slice 0 tells the cases apart.
+-- Advance: what is held at a boundary, short of it, and with none is the rules' table after the advance. Each field of the state and the
+-- words is an equation of its own; slice 0 tells the cases apart.
 use mathlib.Core.Path.{_≡_, refl, sym}
-use mathlib.Core.Bool.{false}
 use mathlib.Core.List.{List, [], _∷_, _++_}
 use Prim.Native.Nat.{ℕ, _≤_, _<_, min}
 use native.Mathlib.Omega.{arith}
 use lib.ListN.{length, drop, getD}
-use borrow.Author.Tests.{lt-ltb, le-ltb, le-leb, lt-leb}
+use borrow.Author.Tests.{le-leb, lt-leb}
 use Rattle.rules.specs.declared.Task.{Task}
-use Rattle.rules.specs.Station.{Slice, Table, lastTick, rowCount, shareWords}
+use Rattle.rules.specs.Station.{Slice, Table, rowCount, shareWords}
 use Rattle.rules.specs.Wrap.{segmentsTo, wrapOf, clipped}
 use Rattle.rules.specs.Advance.{reached, ended, movedTo, atBoundary, advancedIn, advanced}
-use Rattle.rules.specs.Calls.{advance, accepted, refused, refusals, unsound, segmentWords}
+use Rattle.rules.specs.Calls.{advance, accepted}
 use Rattle.rules.specs.Words.{wordsOf, written}
 use Rattle.sound.specs.Lent.{usedOf, tableAt}
 use Rattle.plan.specs.Planned.{Planned, slicesIn, endsIn}
@@ -23,7 +22,7 @@ use Rattle.planner.proofs.Used.{used-ended}
 use Rattle.planner.proofs.Called.{written-none}
 use Rattle.planner.proofs.First.{first}
 
-abbrev state : ℕ → ℕ → ℕ → ℕ → List Task → ℕ → List ℕ → Planner
+abbrev pub state : ℕ → ℕ → ℕ → ℕ → List Task → ℕ → List ℕ → Planner
 state cores clock start used tasks count ends = record { cores = cores; clock = clock; start = start; used = used; tasks = tasks; count = count; ends = ends }
 
 no-slices : {ss : List Slice} {ends : List ℕ} {count : ℕ} {w : List ℕ} → Planned ss ends count w → count ≡ 0 → ss ≡ []
@@ -124,27 +123,3 @@ module _ {p : Planner} {w : List ℕ} (a : Agrees p w) where
     pub advanced-short : tick < getD (p .ends) 0 0 → advanced (tableOf p w) tick ≡ movedTo (tableOf p w) tick
     unfolding advanced advancedIn
     advanced-short h = rw (first a some .slices, lt-leb (getD (p .ends) 0 0) tick h)
-
-clock-is : (p : Planner) (w : List ℕ) → tableOf p w .clock ≡ p .clock
-unfolding tableOf tableAt
-clock-is p w = refl
-
--- the reasons of an advance
-module _ (p : Planner) (w : List ℕ) (tick room : ℕ) (sound : unsound (length w) (tableOf p w) ≡ false) where
-  pub advance-eleven : tick < p .clock → refused (refusals (length w) (tableOf p w) (advance tick room)) ≡ 11
-  unfolding refused refusals
-  advance-eleven h = rw (sound, clock-is p w, lt-ltb tick (p .clock) h)
-
-  module _ (ahead : p .clock ≤ tick) where
-    pub advance-ten : lastTick < tick → refused (refusals (length w) (tableOf p w) (advance tick room)) ≡ 10
-    unfolding refused refusals
-    advance-ten h = rw (sound, clock-is p w, le-ltb tick (p .clock) ahead, lt-ltb lastTick tick h)
-
-    module _ (range : tick ≤ lastTick) where
-      pub advance-twelve : room < segmentWords → refused (refusals (length w) (tableOf p w) (advance tick room)) ≡ 12
-      unfolding refused refusals
-      advance-twelve h = rw (sound, clock-is p w, le-ltb tick (p .clock) ahead, le-ltb lastTick tick range, lt-ltb room segmentWords h)
-
-      pub advance-none : segmentWords ≤ room → refused (refusals (length w) (tableOf p w) (advance tick room)) ≡ 0
-      unfolding refused refusals
-      advance-none h = rw (sound, clock-is p w, le-ltb tick (p .clock) ahead, le-ltb lastTick tick range, le-ltb room segmentWords h)

@@ -4,6 +4,7 @@ use mathlib.Core.Path.{_≡_, refl, ap}
 use mathlib.Core.Bool.{false, and-false, or-true}
 use mathlib.Core.List.{List, [], _∷_}
 use Prim.Native.Nat.{ℕ, zero, suc, _≤_, _<_}
+use native.Mathlib.Omega.{arith}
 use lib.ListN.{length, replicate}
 use borrow.Author.Tests.{lt-ltb, le-ltb}
 use Rattle.rules.specs.Station.{zeros, free, inUse}
@@ -12,6 +13,7 @@ use Rattle.rules.specs.Sound.{every, isSound}
 use Rattle.rules.specs.Words.{Rowed, rowsIn, wordsOf}
 use Rattle.sound.specs.Lent.{flag, usedOf, tableAt, isSoundAt}
 use Rattle.plan.specs.Planned.{endsIn}
+use Rattle.rules.proofs.Floor.{by-lt}
 use Rattle.rules.proofs.Tasks.{no-tasks-length}
 use Rattle.table.proofs.Rowed.{rowed-is}
 use Rattle.planner.specs.declared.Planner.{Planner}
@@ -45,10 +47,6 @@ unfolding isSoundIn isSoundAt blankPlanner isSound every tableAt
 blank-unsound w = rw (no-tasks-length, and-false)
 
 module _ (p : Planner) (w : List ℕ) (cores : ℕ) where
-  pub open-short : length w < 4096 → unchanged 1 p w [] ≡ opening p w cores
-  unfolding opening openedBy refused openRefusals
-  open-short h = rw (lt-ltb (length w) 4096 h)
-
   module _ (room : 4096 ≤ length w) where
     pub open-none : cores < 1 → unchanged 2 p w [] ≡ opening p w cores
     unfolding opening openedBy refused openRefusals
@@ -58,7 +56,17 @@ module _ (p : Planner) (w : List ℕ) (cores : ℕ) where
     unfolding opening openedBy refused openRefusals
     open-many h = rw (le-ltb (length w) 4096 room, lt-ltb 16 cores h, or-true)
 
-    pub open-done : 1 ≤ cores → cores ≤ 16 → (v : List ℕ) → Rowed w (rowsIn 64 []) v
-        → leaves (record { planner = plannerOf (opened cores); answer = Done cores 0 }) v [] ≡ opening p w cores
-    unfolding opening openedBy refused openRefusals heldAs leaves answerOf done wordsOf opened
-    open-done some few v rowed = rw (le-ltb (length w) 4096 room, le-ltb cores 1 some, le-ltb 16 cores few, rowed-is rowed, written-none [])
+  -- by the number of its first reason
+  pub open-refused : (n : ℕ) → n ≡ refused (openRefusals (length w) cores) → (n ≡ 0 → ⊥) → unchanged n p w [] ≡ opening p w cores
+  unfolding opening openedBy
+  open-refused zero e some = absurd (some refl)
+  open-refused (suc n) e some = rw (← e)
+
+  pub open-room : refused (openRefusals (length w) cores) ≡ 0 → 4096 ≤ length w
+  unfolding openRefusals refused
+  open-room z = by-lt (length w) 4096 (λ short. let bad : _≡_ {A = ℕ} 1 0 = rw (lt-ltb (length w) 4096 short) at z in absurd (omega arith)) (λ room. room)
+
+  pub open-done : refused (openRefusals (length w) cores) ≡ 0 → (v : List ℕ) → Rowed w (rowsIn 64 []) v
+      → leaves (record { planner = plannerOf (opened cores); answer = Done cores 0 }) v [] ≡ opening p w cores
+  unfolding opening openedBy heldAs leaves answerOf done wordsOf opened
+  open-done z v rowed = rw (z, rowed-is rowed, written-none [])

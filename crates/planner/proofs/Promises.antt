@@ -1,21 +1,20 @@
 -- What holds of all calls: any two outcomes that a contract allows coincide; a sound table stays sound, and an opened one is; a refusal
 -- changes nothing. A planner's 64 boundaries are an array in the code; here that is the premise `wide`.
 use mathlib.Core.Path.{_≡_, refl, ap, sym, _∙_}
-use mathlib.Core.Bool.{Bool, true, false, cond}
-use mathlib.Core.List.{List, [], _∷_, _++_}
-use Prim.Native.Nat.{ℕ, zero, suc, _≤_, _<_}
+use mathlib.Core.Bool.{true}
+use mathlib.Core.List.{List}
+use Prim.Native.Nat.{ℕ, zero, suc, _≤_}
 use native.Mathlib.Omega.{arith}
 use lib.ListN.{length, drop}
 use Rattle.rules.specs.Station.{Table, rowCount, shareWords}
 use Rattle.rules.specs.Sound.{Sound}
-use Rattle.rules.specs.Calls.{Call, Outcome, Answer as Handed, refusal, refused, refusals, openRefusals, opened, done, accepted, step}
+use Rattle.rules.specs.Calls.{Call, refusal, refused, refusals, openRefusals, opened, done, accepted, step}
 use Rattle.rules.specs.Advance.{Holding, held, idleUntil, idle}
-use Rattle.rules.specs.Words.{wordsOf, written}
 use Rattle.rules.proofs.Floor.{by-bool}
 use Rattle.rules.proofs.Sound.{every-to, sound-to}
 use Rattle.rules.proofs.Kept.{step-sound, opened-sound}
 use Rattle.rules.proofs.Steps.{accepted-number}
-use Rattle.sound.specs.Lent.{tableAt, isSoundAt}
+use Rattle.sound.specs.Lent.{isSoundAt}
 use Rattle.planner.specs.declared.Planner.{Planner}
 use Rattle.planner.specs.declared.Next.{Next}
 use Rattle.planner.specs.declared.Answer.{Answer}
@@ -23,8 +22,8 @@ use Rattle.planner.specs.declared.Answer.the-variants.{Done, Refused}
 use Rattle.planner.specs.declared.Holder.{Holder}
 use Rattle.planner.specs.declared.Holder.the-variants.{Held, IdleUntil, Idle, Refused as Refused′}
 use Rattle.planner.specs.Holding.{toldBy, told}
-use Rattle.planner.specs.Held.{tableOf, plannerOf, isSoundIn, answerOf, Left, leaves, unchanged, heldAs, called, openedBy, opening}
-use Rattle.planner.proofs.Joint.{agrees, same-planner, same-words, sound-there}
+use Rattle.planner.specs.Held.{tableOf, isSoundIn, answerOf, Left, leaves, unchanged, heldAs, called, openedBy, opening}
+use Rattle.planner.proofs.Joint.{agrees, sound-there}
 use Rattle.planner.proofs.Called.{called-unsound, called-refused, called-done}
 use Rattle.planner.proofs.Round.{still-sound}
 

@@ -1,6 +1,6 @@
 -- A sound table that is put into a planner and words comes back from them, and passes the check: the other half of Joint.antt.
 -- The rows of its words are its rows, then zeros, as each row has 64 shares and at most 64 slices exist.
-use mathlib.Core.Path.{_≡_, refl, ap, sym, _∙_}
+use mathlib.Core.Path.{_≡_, refl, ap, _∙_}
 use mathlib.Core.Bool.{true}
 use mathlib.Core.List.{List, [], _∷_, _++_, append-assoc}
 use Prim.Native.Nat.{ℕ, zero, suc, _+_, _*_, _≤_, _<_}
@@ -19,7 +19,6 @@ use Rattle.sound.specs.Lent.{usedOf, tableAt, isSoundAt}
 use Rattle.plan.specs.Planned.{Planned, slicesIn, endsIn}
 use Rattle.plan.proofs.Planned.{planned-slices}
 use Rattle.plan.proofs.Ready.{ready}
-use Rattle.planner.specs.declared.Planner.{Planner}
 use Rattle.planner.specs.Held.{tableOf, plannerOf, isSoundIn}
 
 -- the rows of the words are the rows

@@ -1,13 +1,13 @@
 -- The word of the slots in use: its lowest clear bit is the lowest free slot, its ones are the slots in use, and a task set in a slot
 -- sets or clears that bit. By induction along the tasks, as the word is a digit and twice the rest.
-use mathlib.Core.Path.{_≡_, refl, ap, sym, _∙_}
-use mathlib.Core.Bool.{Bool, true, false, cond}
+use mathlib.Core.Path.{_≡_, refl, _∙_}
+use mathlib.Core.Bool.{Bool, true, false}
 use mathlib.Core.List.{List, [], _∷_}
 use Prim.Native.Nat.{ℕ, zero, suc, _+_, _-_, _*_, _/_, _%_, _^_, _≤_, _<_}
 use native.Mathlib.Nat.{one-mul, mod-eq-of-lt, pow-suc, not-suc-le-zero, le-of-suc-le-suc}
 use native.Mathlib.Omega.{arith}
 use lib.Pow.{pow-lt}
-use lib.Count.{trailingZeros, under, ones, ones-step, ones-le}
+use lib.Count.{trailingZeros, ones, ones-step, ones-le}
 use lib.ListN.{length, getD, set, drop, drop-of-length-le}
 use lib.Seq.{drop-cons}
 use native.Mathlib.Numerals.{add-one}

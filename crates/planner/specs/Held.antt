@@ -1,7 +1,7 @@
 -- The rules' table as the planner holds it and is lent it, and what each call leaves.
 use mathlib.Core.Path.{_≡_}
 use mathlib.Core.Bool.{Bool, cond}
-use mathlib.Core.List.{List, [], _∷_, _++_}
+use mathlib.Core.List.{List, [], _++_}
 use Prim.Native.Nat.{ℕ, zero, suc, _≤_}
 use lib.ListN.{length, drop, set}
 use Rattle.rules.specs.declared.Task.{Task}

@@ -1,9 +1,12 @@
 -- What holder answers, by document 01's number and its three cases.
 use mathlib.Core.Bool.{cond}
 use mathlib.Core.List.{List}
-use Prim.Native.Nat.{ℕ, zero, suc}
-use lib.ListN.{length}
-use Rattle.rules.specs.Advance.{Holding, held, idleUntil, idle, holderOf}
+use Prim.Native.Nat.{ℕ, zero, suc, _-_}
+use lib.Dec.{eqb}
+use lib.ListN.{length, take}
+use Rattle.rules.specs.Station.{grains, slotCount}
+use Rattle.rules.specs.Wrap.{wrap}
+use Rattle.rules.specs.Advance.{Holding, held, idleUntil, idle, heldIn, holderOf}
 use Rattle.rules.specs.Calls.{holderNumber}
 use Rattle.planner.specs.declared.Planner.{Planner}
 use Rattle.planner.specs.declared.Holder.{Holder}
@@ -31,3 +34,11 @@ toldIf (suc n) h = record { number = suc n; holding = idle }
 unfoldable pub told : Planner → List ℕ → ℕ → Told
 told p words core =
     cond (isSoundIn p words) (toldIf (holderNumber (length words) (tableOf p words) core) (holderOf (tableOf p words) core)) (record { number = 1; holding = idle })
+
+-- the same look by the numbers that are held: slice 0 from start to end, its row the first 64 words
+unfoldable pub heldFront : ℕ → ℕ → ℕ → List ℕ → ℕ → Holding
+heldFront start clock end w core = heldIn (grains start) core (grains (clock - start)) (idleUntil (grains end)) (wrap (grains (end - start)) 0 0 (take slotCount w))
+
+-- and by their number: with no boundary nothing is pending
+unfoldable pub heldNow : ℕ → ℕ → ℕ → ℕ → List ℕ → ℕ → Holding
+heldNow count start clock end w core = cond (eqb count 0) idle (heldFront start clock end w core)

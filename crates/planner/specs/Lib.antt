@@ -1,3 +1,5 @@
 pub mod Held
 pub mod Holding
 pub mod Releasing
+pub mod Reasons
+pub mod Front

@@ -1,23 +1,16 @@
--- What the steps of a release ask of what is held, and the test for a boundary by the boundaries alone.
+-- What the steps of a release ask of what is held.
 use mathlib.Core.Path.{_≡_}
-use mathlib.Core.Bool.{Bool, true, false, cond, _||_}
+use mathlib.Core.Bool.{true}
 use mathlib.Core.Logic.{_⊎_}
-use mathlib.Core.List.{List, [], _∷_}
+use mathlib.Core.List.{List}
 use Prim.Native.Nat.{ℕ, _+_, _≤_, _<_}
-use lib.Dec.{eqb}
 use lib.ListN.{length, getD}
 use Rattle.rules.specs.Station.{lastTick, longestPeriod, slotCount, rowCount, shareWords, taskAt}
 use Rattle.rules.specs.Slices.{isEnd, withEnd}
 use Rattle.rules.specs.Release.{lowered, deadlineOf}
-use Rattle.rules.specs.Calls.{Call, refused, refusals}
 use Rattle.plan.specs.Planned.{Planned, Ready, slicesIn}
 use Rattle.planner.specs.declared.Planner.{Planner}
-use Rattle.planner.specs.Held.{tableOf, isSoundIn, Agrees}
-
--- d is one of some boundaries
-unfoldable pub among : ℕ → List ℕ → Bool
-among d [] = false
-among d (e ∷ es) = eqb d e || among d es
+use Rattle.planner.specs.Held.{tableOf, Agrees}
 
 -- slice 0 can be lowered at the clock: where there is one, it ends after the clock
 pub record Lowers (ends : List ℕ) (count : ℕ) (words : List ℕ) (start clock : ℕ) : Type 0 where
@@ -47,7 +40,3 @@ pub record Releases (p : Planner) (w : List ℕ) (slot d : ℕ) : Type 0 where
   pub due : d ≡ deadlineOf (tableOf p w) slot
   pub range : d ≤ lastTick
   pub room : (isEnd d (tableOf p w .slices) ≡ true) ⊎ (p .count < rowCount)
-
--- the number of the first reason that refuses a call, or 0
-unfoldable pub numberFor : Planner → List ℕ → Call → ℕ
-numberFor p words call = cond (isSoundIn p words) (refused (refusals (length words) (tableOf p words) call)) 1

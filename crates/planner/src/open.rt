@@ -1,9 +1,8 @@
 use crate::Answer;
 use crate::Next;
 use crate::Planner;
+use crate::reason::open_reason;
 use rules::Task;
-use sound::MOST_CORES;
-use table::WORDS;
 use table::zero::clear_table;
 ghost use mathlib.Core.Path.{_≡_};
 ghost use mathlib.Core.List.{[]};
@@ -43,11 +42,9 @@ impl Planner {
     pub fn open(self, shares: &mut [u32], cores: u64) -> Next
         ensures { λ r. ⌜ leaves r (now (shares .exit)) [] ≡ opening self (now (shares .entry)) cores ⌝ }
     {
-        if shares.len() < WORDS {
-            return self.refuse(1);
-        }
-        if cores < 1 || MOST_CORES < cores {
-            return self.refuse(2);
+        let number = open_reason(shares.len(), cores);
+        if number != 0 {
+            return self.refuse(number);
         }
         clear_table(shares);
         Next {

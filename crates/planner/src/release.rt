@@ -1,19 +1,16 @@
 use crate::Answer;
 use crate::Next;
 use crate::Planner;
-use plan::boundary::Bounds;
+use crate::reason::due_reason;
+use crate::reason::task_reason;
 use plan::boundary::with_boundary;
 use plan::give::give;
 use rows::word::wide;
 use rules::Task;
 use sound::GRAINS;
-use sound::LAST_TICK;
-use table::ROWS;
 use table::row::row_lower;
 ghost use mathlib.Core.Path.{_≡_};
-ghost use mathlib.Core.Bool.{_||_};
 ghost use mathlib.Core.List.{[], _++_};
-ghost use lib.Dec.{eqb};
 ghost use lib.ListN.{length, drop};
 ghost use Rattle.rules.specs.Station.{rowCount, shareWords};
 ghost use Rattle.rules.specs.Slices.{withEnd};
@@ -22,12 +19,13 @@ ghost use Rattle.rules.specs.Calls.{release};
 ghost use Rattle.rules.specs.Words.{wordsOf};
 ghost use Rattle.plan.specs.Planned.{Planned, slicesIn};
 ghost use Rattle.planner.specs.Held.{tableOf, plannerOf, leaves, called};
-ghost use Rattle.planner.specs.Releasing.{Lowers, Replans, Releases, among, numberFor};
+ghost use Rattle.planner.specs.Reasons.{numberFor};
+ghost use Rattle.planner.specs.Releasing.{Lowers, Replans, Releases};
 
 // "1. Each share of slice 0 is lowered by what that task has run since the plan start".
-fn lower_first(shares: &mut [u32], ends: [u64; 64], count: usize, start: u64, clock: u64)
-    requires { ⌜ Lowers ends count (now shares) start clock ⌝ }
-    ensures { λ _. ⌜ Planned (lowered start clock (slicesIn ends count (now (shares .entry)))) ends count (now (shares .exit)) × (drop shareWords (now (shares .exit)) ≡ drop shareWords (now (shares .entry))) ⌝ }
+fn lower_first(shares: &mut [u32], ends: &[u64], count: usize, start: u64, clock: u64)
+    requires { ⌜ Lowers (now ends) count (now shares) start clock ⌝ }
+    ensures { λ _. ⌜ Planned (lowered start clock (slicesIn (now (ends .entry)) count (now (shares .entry)))) (now (ends .entry)) count (now (shares .exit)) × (drop shareWords (now (shares .exit)) ≡ drop shareWords (now (shares .entry))) ⌝ }
 {
     if count == 0 {
         return;
@@ -40,42 +38,25 @@ fn lower_first(shares: &mut [u32], ends: [u64; 64], count: usize, start: u64, cl
     );
 }
 
-// The three steps of a release at the clock: slice 0 lowered, a boundary at d, and the new job's shares.
-fn replan(
+// The three steps of a release at the clock: slice 0 lowered, a boundary at d, and the new job's shares. Hands back how many boundaries
+// there are then.
+pub fn replan(
     shares: &mut [u32],
-    ends: [u64; 64],
+    ends: &mut [u64],
     count: usize,
     start: u64,
     clock: u64,
     slot: usize,
     rate: u64,
     d: u64,
-) -> Bounds
-    requires { ⌜ Replans ends count (now shares) start clock slot rate d ⌝ }
-    ensures { λ r. ⌜ Planned (given slot rate d clock (withEnd d clock (lowered start clock (slicesIn ends count (now (shares .entry)))))) (r .ends) (r .count) (now (shares .exit)) × (drop shareWords (now (shares .exit)) ≡ drop shareWords (now (shares .entry))) ⌝ }
+) -> usize
+    requires { ⌜ Replans (now ends) count (now shares) start clock slot rate d ⌝ }
+    ensures { λ r. ⌜ Planned (given slot rate d clock (withEnd d clock (lowered start clock (slicesIn (now (ends .entry)) count (now (shares .entry)))))) (now (ends .exit)) r (now (shares .exit)) × (drop shareWords (now (shares .exit)) ≡ drop shareWords (now (shares .entry))) ⌝ }
 {
     lower_first(shares, ends, count, start, clock);
-    let b = with_boundary(shares, ends, count, d, clock);
-    let next = b.ends;
-    give(shares, &next, b.count, slot, rate, d, clock);
-    b
-}
-
-fn is_end(found: bool, end: u64, d: u64) -> bool
-    ensures { λ r. ⌜ r ≡ found || eqb d end ⌝ }
-{
-    if found { true } else { d == end }
-}
-
-// Whether d is one of 64 boundaries.
-fn is_among(ends: [u64; 64], d: u64) -> bool
-    ensures { λ r. ⌜ r ≡ among d ends ⌝ }
-{
-    let mut found = false;
-    for k in 0..ROWS {
-        found = is_end(found, ends[k], d);
-    }
-    found
+    let n = with_boundary(shares, ends, count, d, clock);
+    give(shares, ends, n, slot, rate, d, clock);
+    n
 }
 
 impl Planner {
@@ -86,10 +67,10 @@ impl Planner {
     {
         let mut tasks = self.tasks;
         let task = tasks[slot];
-        let ends = self.ends;
-        let b = replan(
+        let mut ends = self.ends;
+        let n = replan(
             shares,
-            ends,
+            &mut ends,
             self.count as usize,
             self.start,
             self.clock,
@@ -97,7 +78,6 @@ impl Planner {
             wide(task.rate),
             d,
         );
-        let bounds = b.ends;
         tasks[slot] = Task {
             period: task.period,
             cost: task.cost,
@@ -110,13 +90,13 @@ impl Planner {
             start: self.clock,
             used: self.used,
             tasks: tasks,
-            count: b.count as u64,
-            ends: bounds,
+            count: n as u64,
+            ends: ends,
         }
     }
 
     // The number of the first reason to refuse a release, or 0.
-    fn release_reason(self, shares: &[u32], slot: u64) -> u64
+    fn release_number(self, shares: &[u32], slot: u64) -> u64
         ensures { λ r. ⌜ (r ≡ numberFor self (now (shares .entry)) (release slot)) × (length (self .ends) ≡ rowCount) ⌝ }
     {
         if !self.sound(shares) {
@@ -125,29 +105,22 @@ impl Planner {
         if 63 < slot {
             return 7;
         }
-        let task = self.tasks[slot as usize];
-        if task.period == 0 {
-            return 7;
-        }
-        if 0 < task.deadline {
-            return 8;
-        }
-        let d = self.clock + wide(task.period);
-        if LAST_TICK < d {
-            return 10;
+        let tasks = self.tasks;
+        let task = tasks[slot as usize];
+        let period = wide(task.period);
+        let number = task_reason(period, task.deadline);
+        if number != 0 {
+            return number;
         }
         let ends = self.ends;
-        if self.count == 64 && !is_among(ends, d) {
-            return 9;
-        }
-        0
+        due_reason(self.clock + period, self.count, &ends)
     }
 
     // Release: the slot's task gets a job, due a period after the clock. Value: its deadline.
     pub fn release(self, shares: &mut [u32], slot: u64) -> Next
         ensures { λ r. ⌜ leaves r (now (shares .exit)) [] ≡ called self (now (shares .entry)) [] (release slot) ⌝ }
     {
-        let number = self.release_reason(shares, slot);
+        let number = self.release_number(shares, slot);
         if number != 0 {
             return self.refuse(number);
         }

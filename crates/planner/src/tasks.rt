@@ -1,24 +1,23 @@
 use crate::Answer;
 use crate::Next;
 use crate::Planner;
+use crate::reason::declare_reason;
+use crate::reason::task_reason;
 use crate::slots::bit_of;
-use crate::slots::in_use;
 use crate::slots::load;
 use crate::slots::lowest_free;
 use crate::slots::rate_of;
 use rows::word::narrow;
 use rows::word::wide;
 use rules::Task;
-use sound::GRAINS;
-use sound::LONGEST_PERIOD;
 ghost use mathlib.Core.Path.{_≡_};
-ghost use mathlib.Core.List.{List, []};
-ghost use Prim.Native.Nat.{ℕ, _≤_, _<_};
+ghost use mathlib.Core.List.{[]};
+ghost use Prim.Native.Nat.{_≤_, _<_};
 ghost use lib.ListN.{length};
-ghost use Rattle.rules.specs.Station.{grains, longestPeriod, slotCount, rateOf};
-ghost use Rattle.rules.specs.Calls.{declare, withdraw, lowestFree, done, withTask};
-ghost use Rattle.sound.specs.Lent.{usedOf};
-ghost use Rattle.planner.specs.Held.{Agrees, tableOf, withSlot, leaves, heldAs, called};
+ghost use Rattle.rules.specs.Station.{grains, longestPeriod, rowCount, rateOf};
+ghost use Rattle.rules.specs.Calls.{declare, withdraw};
+ghost use Rattle.planner.specs.Held.{withSlot, leaves, called};
+ghost use Rattle.planner.specs.Reasons.{numberFor};
 
 // A task that has no job, of a lawful period and cost.
 fn task_of(period: u64, cost: u64) -> Task
@@ -54,62 +53,58 @@ impl Planner {
         }
     }
 
-    // The state with a task in the lowest free slot, and that slot's bit. Value: the slot.
-    fn with_lowest(self, task: Task) -> Next
-        requires { ⌜ (self .used ≡ usedOf (self .tasks)) × (length (self .tasks) ≡ slotCount) × (lowestFree (self .tasks) < slotCount) × (1 ≤ task .period) ⌝ }
-        ensures { λ r. ⌜ ((w : List ℕ) → Agrees self w → leaves r w [] ≡ heldAs w [] (done (lowestFree (self .tasks)) (withTask (tableOf self w) (lowestFree (self .tasks)) task))) ⌝ }
+    // The number of the first reason to refuse a declare, or 0.
+    fn declare_number(self, shares: &[u32], period: u64, cost: u64) -> u64
+        ensures { λ r. ⌜ (r ≡ numberFor self (now (shares .entry)) (declare period cost)) × (length (self .ends) ≡ rowCount) ⌝ }
     {
-        let slot = lowest_free(self.used);
-        let used = self.used + bit_of(slot);
-        Next {
-            planner: self.with_slot(slot, task, used),
-            answer: Answer::Done(slot as u64, 0),
+        if !self.sound(shares) {
+            return 1;
         }
+        let tasks = self.tasks;
+        declare_reason(self.cores, self.used, load(tasks), period, cost)
     }
 
     // Declare: the lowest free slot. Value: the slot.
     pub fn declare(self, shares: &[u32], period: u64, cost: u64) -> Next
         ensures { λ r. ⌜ leaves r (now (shares .entry)) [] ≡ called self (now (shares .entry)) [] (declare period cost) ⌝ }
     {
-        if !self.sound(shares) {
-            return self.refuse(1);
+        let number = self.declare_number(shares, period, cost);
+        if number != 0 {
+            return self.refuse(number);
         }
-        if period < 1 || LONGEST_PERIOD < period {
-            return self.refuse(3);
-        }
-        if cost == 0 || GRAINS * period < cost {
-            return self.refuse(4);
-        }
-        if in_use(self.used) == 64 {
-            return self.refuse(5);
-        }
+        let slot = lowest_free(self.used);
+        let used = self.used + bit_of(slot);
         let task = task_of(period, cost);
-        let tasks = self.tasks;
-        if GRAINS * self.cores < load(tasks) + wide(task.rate) {
-            return self.refuse(6);
+        Next {
+            planner: self.with_slot(slot, task, used),
+            answer: Answer::Done(slot as u64, 0),
         }
-        self.with_lowest(task)
+    }
+
+    // The number of the first reason to refuse a withdraw, or 0.
+    fn withdraw_number(self, shares: &[u32], slot: u64) -> u64
+        ensures { λ r. ⌜ (r ≡ numberFor self (now (shares .entry)) (withdraw slot)) × (length (self .ends) ≡ rowCount) ⌝ }
+    {
+        if !self.sound(shares) {
+            return 1;
+        }
+        if 63 < slot {
+            return 7;
+        }
+        let tasks = self.tasks;
+        let task = tasks[slot as usize];
+        task_reason(wide(task.period), task.deadline)
     }
 
     // Withdraw: the slot is free again and may be used again at once. Value 0.
     pub fn withdraw(self, shares: &[u32], slot: u64) -> Next
         ensures { λ r. ⌜ leaves r (now (shares .entry)) [] ≡ called self (now (shares .entry)) [] (withdraw slot) ⌝ }
     {
-        if !self.sound(shares) {
-            return self.refuse(1);
-        }
-        if 63 < slot {
-            return self.refuse(7);
+        let number = self.withdraw_number(shares, slot);
+        if number != 0 {
+            return self.refuse(number);
         }
         let at = slot as usize;
-        let tasks = self.tasks;
-        let task = tasks[at];
-        if task.period == 0 {
-            return self.refuse(7);
-        }
-        if 0 < task.deadline {
-            return self.refuse(8);
-        }
         let free = Task {
             period: 0,
             cost: 0,

@@ -16,11 +16,14 @@ pub struct Place {
     pub at: u64,
 }
 
-// The place one share further. A share is no longer than a stretch, so at most one stretch ends on the way.
+// The place one share further: the same for a share of nothing. A share is no longer than a stretch, so at most one stretch ends on the way.
 fn beyond(place: Place, share: u64, slice: u64, run: u64) -> Place
     requires { ⌜ Lower slice run × (place .at < slice) × (share ≤ slice) × (place .passed ≤ slotCount * grains longestPeriod) ⌝ }
     ensures { λ r. ⌜ (r .at < slice) × (r .passed ≤ place .passed + run) × ((e : ℕ) → OnLine slice run e (place .passed) (place .at) → OnLine slice run (e + share) (r .passed) (r .at)) ⌝ }
 {
+    if share == 0 {
+        return place;
+    }
     let to = place.at + share;
     if to < slice {
         Place {

@@ -14,6 +14,7 @@ use Rattle.rules.specs.declared.Task.{Task}
 use Rattle.rules.specs.Station.{inUse, pending}
 use Rattle.rules.specs.Sound.{every, eachTask, lawfulTest, inTimeTest, unusedTest}
 use Rattle.rules.proofs.Floor.{by-lt, by-bool}
+use Rattle.rules.proofs.Sound.{every-to}
 use Rattle.sound.specs.Lent.{flag, usedOf, freeTest, taskTest}
 use Rattle.sound.proofs.Tests.{same-bool, cross}
 
@@ -38,6 +39,10 @@ free-task clock start k =
     (by-lt 0 (k .deadline)
     (λ job. rw (ne-eqb (k .deadline) 0 (λ q. omega arith)) (simp and-false))
     (λ idle. rw (le-ltb 0 (k .deadline) idle))))
+
+pub free-rate : (k : Task) → freeTest k ≡ true → k .rate ≡ 0
+unfolding freeTest
+free-rate k h = eqb-true (k .rate) 0 (every-to _ h .1 .1 .0)
 
 pub used-task : (clock start : ℕ) (k : Task) → ((inUse k && lawfulTest k) && inTimeTest clock start k) ≡ (eqb 1 (flag (inUse k)) && taskTest clock start k)
 unfolding taskTest unusedTest flag

@@ -171,5 +171,13 @@ module _ (cores clock start used : ℕ) (tasks : List Task) (count : ℕ) (ends 
         let all = ends-same start tasks near slots ss each ∙ t .1 .1 .1 .1 .0 in
         every-from _ (load, (still, (each, (all, (w .1 .1 .1 .1 .0, (w .1 .1 .1 .1 .1 .0, tt))))))
 
-    pub whole : planTest cores clock start (duesOf start tasks) (ratesOf tasks) count ends words ≡ isSoundAt cores clock start used tasks count ends words
+    whole : planTest cores clock start (duesOf start tasks) (ratesOf tasks) count ends words ≡ isSoundAt cores clock start used tasks count ends words
     whole = same-bool _ _ to from
+
+    -- the same with what was written for the deadlines and rates, as the code says it
+    pub decided : {due rates : List ℕ} {r : Bool} → due ≡ duesOf start tasks → rates ≡ ratesOf tasks → r ≡ planTest cores clock start due rates count ends words → r ≡ isSoundAt cores clock start used tasks count ends words
+    decided {due} {rates} dues rated is =
+        is
+        ∙ ap (λ d. planTest cores clock start d rates count ends words) dues
+        ∙ ap (λ d. planTest cores clock start (duesOf start tasks) d count ends words) rated
+        ∙ whole

@@ -5,6 +5,7 @@ use mathlib.Core.Bool.{Bool, true, false, _&&_, and-eq-true-iff, true≢false}
 use Prim.Native.Nat.{ℕ, _+_}
 use native.Mathlib.Omega.{arith}
 use borrow.Author.Tests.{eq-eqb, eqb-true}
+use lib.Bits.{bitOr, or-add-and, and-le-l, and-le-r}
 use lib.Dec.{eqb}
 
 -- code computes `a && b` by a branch on a, which leaves b or a
@@ -38,3 +39,13 @@ sum-zero a b =
     same-bool _ _
     (λ is. let e = eqb-true (a + b) 0 is in and-eq-true-iff _ _ .1 (eq-eqb a 0 (omega arith), eq-eqb b 0 (omega arith)))
     (λ h. let f = and-eq-true-iff (eqb a 0) (eqb b 0) .0 h in let x = eqb-true a 0 (f .0) in let y = eqb-true b 0 (f .1) in eq-eqb (a + b) 0 (omega arith))
+
+-- a bitwise or is zero where both numbers are: with what they share it makes their sum, and what they share is at most each of them
+pub or-zero : (a b : ℕ) → eqb (bitOr a b) 0 ≡ (eqb a 0 && eqb b 0)
+or-zero a b =
+    let both = or-add-and a b in
+    let left = and-le-l a b in
+    let right = and-le-r a b in
+    same-bool _ _
+    (λ is. let e = eqb-true (bitOr a b) 0 is in and-eq-true-iff _ _ .1 (eq-eqb a 0 (omega arith), eq-eqb b 0 (omega arith)))
+    (λ h. let f = and-eq-true-iff (eqb a 0) (eqb b 0) .0 h in let x = eqb-true a 0 (f .0) in let y = eqb-true b 0 (f .1) in eq-eqb (bitOr a b) 0 (omega arith))

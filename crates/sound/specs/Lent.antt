@@ -18,6 +18,10 @@ unfoldable pub usedOf : List Task → ℕ
 usedOf [] = 0
 usedOf (k ∷ ks) = flag (inUse k) + 2 * usedOf ks
 
+-- the task of four numbers
+abbrev pub taskWith : ℕ → ℕ → ℕ → ℕ → Task
+taskWith period cost rate deadline = record { period = period; cost = cost; rate = rate; deadline = deadline }
+
 -- "Slots not in use hold zeros."
 unfoldable pub freeTest : Task → Bool
 freeTest k = every (eqb (k .period) 0 ∷ eqb (k .cost) 0 ∷ eqb (k .rate) 0 ∷ eqb (k .deadline) 0 ∷ [])

@@ -12,7 +12,7 @@ ghost use lib.Dec.{leb, ltb, eqb};
 ghost use lib.ListN.{length};
 ghost use Rattle.rules.specs.Station.{lastTick, longestPeriod, slotCount, grains, inUse};
 ghost use Rattle.rules.specs.Sound.{eachTask, lawfulTest, inTimeTest};
-ghost use Rattle.sound.specs.Lent.{flag, usedOf, freeTest, taskTest};
+ghost use Rattle.sound.specs.Lent.{flag, usedOf, taskWith, freeTest, taskTest};
 ghost use Rattle.sound.specs.Due.{dueFrom, duesOf, ratesOf};
 
 // "Its rate is cost divided by period, rounded up", by a product and no division: the allowance reaches the cost, and would not
@@ -25,49 +25,56 @@ fn rate_is(period: u64, cost: u64, rate: u64) -> bool
     cost <= allowance && allowance - period < cost
 }
 
-// "every slot in use has a lawful period, cost and rate". A lawful rate is "1 to 1,000", which bounds the cost too.
-fn lawful(k: Task) -> bool
-    ensures { λ r. ⌜ r ≡ inUse k && lawfulTest k ⌝ }
+// "every slot in use has a lawful period, cost and rate". A lawful rate is "1 to 1,000", which bounds the cost too. Any numbers may come:
+// only a period in range is multiplied. What a yes bounds is said for the callers.
+fn lawful(period: u64, cost: u64, rate: u64) -> bool
+    ensures { λ r. ⌜ (r ≡ inUse (taskWith period cost rate 0) && lawfulTest (taskWith period cost rate 0)) × (r ≡ true → period ≤ longestPeriod) × (r ≡ true → rate ≤ 1000) ⌝ }
 {
-    let period = wide(k.period);
-    let rate = wide(k.rate);
     if period < 1 || LONGEST_PERIOD < period {
         return false;
     }
     if rate < 1 || GRAINS < rate {
         return false;
     }
-    rate_is(period, wide(k.cost), rate)
+    rate_is(period, cost, rate)
 }
 
 // "each pending job's deadline is in range, above the clock and at most plan start plus period"
-fn in_time(k: Task, clock: u64, start: u64) -> bool
-    requires { ⌜ start ≤ lastTick ⌝ }
-    ensures { λ r. ⌜ r ≡ inTimeTest clock start k ⌝ }
+fn in_time(period: u64, deadline: u64, clock: u64, start: u64) -> bool
+    requires { ⌜ (start ≤ lastTick) × (period ≤ longestPeriod) ⌝ }
+    ensures { λ r. ⌜ r ≡ inTimeTest clock start (taskWith period 0 0 deadline) ⌝ }
 {
-    let deadline = k.deadline;
     if deadline == 0 {
         return true;
     }
-    deadline <= LAST_TICK && clock < deadline && deadline <= start + wide(k.period)
+    deadline <= LAST_TICK && clock < deadline && deadline <= start + period
 }
 
-// "Slots not in use hold zeros."
-fn unused(k: Task) -> bool
-    ensures { λ r. ⌜ r ≡ freeTest k ⌝ }
+// "Slots not in use hold zeros." Four numbers in one, which is zero only where all are.
+fn unused(period: u64, cost: u64, rate: u64, deadline: u64) -> bool
+    ensures { λ r. ⌜ r ≡ freeTest (taskWith period cost rate deadline) ⌝ }
 {
-    k.period == 0 && k.cost == 0 && k.rate == 0 && k.deadline == 0
+    (period | cost | rate | deadline) == 0
 }
 
-// One slot: the lowest bit of what is left of the slots in use says whether it is, and its task is sound by itself.
-fn one_task(used: u64, k: Task, clock: u64, start: u64) -> bool
+// One slot, by the four numbers of its task: the lowest bit of what is left of the slots in use says whether it is, and its task is sound
+// by itself. Any numbers may come; those of a sound task are small, the rate at most 1,000.
+pub fn one_task(
+    used: u64,
+    period: u64,
+    cost: u64,
+    rate: u64,
+    deadline: u64,
+    clock: u64,
+    start: u64,
+) -> bool
     requires { ⌜ start ≤ lastTick ⌝ }
-    ensures { λ r. ⌜ r ≡ eqb (used % 2) (flag (inUse k)) && taskTest clock start k ⌝ }
+    ensures { λ r. ⌜ (r ≡ eqb (used % 2) (flag (inUse (taskWith period cost rate deadline))) && taskTest clock start (taskWith period cost rate deadline)) × (r ≡ true → rate ≤ 1000) ⌝ }
 {
     if used % 2 == 0 {
-        return unused(k);
+        return unused(period, cost, rate, deadline);
     }
-    lawful(k) && in_time(k, clock, start)
+    lawful(period, cost, rate) && in_time(period, deadline, clock, start)
 }
 
 // From a to b, or 0 where b is not after a.
@@ -78,7 +85,7 @@ pub fn since(a: u64, b: u64) -> u64
 }
 
 // A deadline in ticks after the plan start, or 0 where no job is pending: the low 32 bits, which a sound job's deadline fits.
-fn due_of(deadline: u64, start: u64) -> u32
+pub fn due_of(deadline: u64, start: u64) -> u32
     ensures { λ r. ⌜ r ≡ dueFrom start deadline ⌝ }
 {
     narrow(since(start, deadline) % 4294967296)
@@ -100,7 +107,15 @@ pub fn tasks_sound(
     let mut left = used;
     for i in 0..SLOTS {
         let k = tasks[i];
-        if !one_task(left, k, clock, start) {
+        if !one_task(
+            left,
+            wide(k.period),
+            wide(k.cost),
+            wide(k.rate),
+            k.deadline,
+            clock,
+            start,
+        ) {
             return false;
         }
         left = left / 2;

@@ -19,7 +19,7 @@ ghost use Rattle.sound.specs.Due.{planTest, scalarsTest};
 ghost use Rattle.sound.specs.Lent.{isSoundAt};
 
 // "1 to 16 cores; clock in range; .. plan start is at most the clock"; and no more boundaries than rows.
-fn scalars(cores: u64, clock: u64, start: u64, count: u64) -> bool
+pub fn scalars(cores: u64, clock: u64, start: u64, count: u64) -> bool
     ensures { λ r. ⌜ r ≡ scalarsTest cores clock start count ⌝ }
 {
     1 <= cores && cores <= MOST_CORES && clock <= LAST_TICK && start <= clock && count <= 64
@@ -41,7 +41,7 @@ fn load_sound(all: DueFacts, cores: u64, clock: u64, start: u64) -> bool
 }
 
 // The clauses about all slices, once cores and count are in range.
-fn plan_sound(
+pub fn plan_sound(
     cores: u64,
     clock: u64,
     start: u64,

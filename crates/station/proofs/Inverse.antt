@@ -6,7 +6,7 @@ use Prim.Native.Nat.{ℕ, zero, suc, _*_, _≤_}
 use native.Mathlib.Nat.{not-suc-le-zero}
 use native.Mathlib.Omega.{arith}
 use lib.ListN.{length, take, drop, length-append, length-drop}
-use lib.Seq.{take-at, drop-at, take-add}
+use lib.Seq.{take-at, drop-at, take-add, take-all}
 use Rattle.rules.specs.Station.{rowCount, slotCount}
 use Rattle.rules.specs.declared.Task.{Task}
 use Rattle.planner.specs.declared.Planner.{Planner}
@@ -28,6 +28,9 @@ words-back (suc n) (a ∷ b ∷ c ∷ []) h = absurd (omega arith)
 words-back (suc n) (a ∷ b ∷ c ∷ d ∷ w) h =
     let next : 4 * suc n ≡ suc (suc (suc (suc (4 * n)))) = omega arith in
     rw (next, words-back n w (omega arith))
+
+pub words-exact : (n : ℕ) (w : List ℕ) → length w ≡ 4 * n → taskWords (tasksIn n w) ≡ w
+words-exact n w is = words-back n w (omega arith) ∙ take-all (4 * n) w (omega arith)
 
 abbrev planner : Planner → List Task → List ℕ → Planner
 planner p tasks ends = record { cores = p .cores; clock = p .clock; start = p .start; used = p .used; tasks = tasks; count = p .count; ends = ends }

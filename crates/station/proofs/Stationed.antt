@@ -1,18 +1,17 @@
--- How a call comes out: a result area that is too short, a state area that no planner can be read from, or what the planner's call leaves.
-use mathlib.Core.Bool.{true, false, and-eq-true-iff}
+-- How a call comes out: a result area that is too short, a state area that is too short, or what the planner's call leaves.
+use mathlib.Core.Bool.{false}
 use mathlib.Core.List.{List, [], _∷_}
 use mathlib.Core.Path.{_≡_, refl, ap, sym, _∙_}
 use Prim.Native.Nat.{ℕ, zero, suc, _≤_, _<_}
 use native.Mathlib.Omega.{arith}
-use lib.Dec.{leb}
 use lib.ListN.{length, drop, getD, length-drop}
 use lib.Seq.{length-take-le}
-use borrow.Author.Tests.{leb-true, le-leb, lt-ltb, le-ltb}
-use Rattle.rules.proofs.Floor.{by-bool, by-lt}
+use borrow.Author.Tests.{le-leb, lt-ltb, le-ltb}
+use Rattle.rules.proofs.Floor.{by-bool}
 use Rattle.rules.specs.Advance.{Holding, idleUntil, idle, holderOf}
 use Rattle.rules.specs.Calls.{Answer as Handed, Call, refusal, refused, openRefusals, done, holderNumber}
 use Rattle.rules.specs.Sound.{Sound}
-use Rattle.rules.specs.Station.{Table, rowCount, slotCount, free, inUse, taskAt, rates}
+use Rattle.rules.specs.Station.{Table, rowCount, free, inUse, taskAt, rates}
 use Rattle.rules.specs.declared.Task.{Task}
 use Rattle.sound.specs.Lent.{tableAt}
 use Rattle.planner.proofs.Called.{called-unsound}
@@ -26,7 +25,7 @@ use Rattle.planner.specs.declared.Holder.the-variants.{Held, IdleUntil, Idle, R
 use Rattle.planner.specs.declared.Holder.{Holder}
 use Rattle.planner.specs.declared.Next.{Next}
 use Rattle.planner.specs.declared.Planner.{Planner}
-use Rattle.station.specs.Area.{stateWords, resultWords, mostField, tasksIn, plannerIn, widest, fitting, readable, answered}
+use Rattle.station.specs.Area.{stateWords, resultWords, mostField, plannerIn, widest, fitting, answered}
 use Rattle.station.specs.Station.{Lent, lent, settled, lengthsFirst, leftIn, stationed, openedIn, holdingWords, toldWords, holderIn}
 use Rattle.station.specs.Put.{putBy, toldIn}
 use Rattle.station.proofs.Fields.{widest-most}
@@ -64,13 +63,6 @@ unfit-unsound p w unfit =
     cc)
     (λ bad. bad)
 
--- what the test of a state area says
-pub read-from : (s : List ℕ) → readable s ≡ true → (stateWords ≤ length s) × (widest (tasksIn slotCount (drop 69 s)) ≤ mostField)
-unfolding readable fitting
-read-from s ok =
-    let both = and-eq-true-iff (leb stateWords (length s)) (fitting (tasksIn slotCount (drop 69 s))) .0 ok in
-    (leb-true _ _ (both .0), leb-true _ _ (both .1))
-
 pub planner-wide : (s : List ℕ) → stateWords ≤ length s → length (plannerIn s .ends) ≡ rowCount
 unfolding plannerIn
 planner-wide s long = length-take-le 64 (drop 5 s) (omega (arith, length-drop 5 s))
@@ -90,26 +82,11 @@ module _ (state shares segments result : List ℕ) (then : Lent) where
   unfolding lengthsFirst
   long-enough room long = rw (le-ltb (length result) resultWords room, le-ltb (length state) stateWords long)
 
--- long enough, and yet no planner can be read from it: then it is not sound
-unread : (s w : List ℕ) → stateWords ≤ length s → readable s ≡ false → isSoundIn (plannerIn s) w ≡ false
-unfolding readable plannerIn
-unread s w long not-read = unfit-unsound (plannerIn s) w (rw (le-leb stateWords (length s) long) at not-read)
-
 -- a planner that is not sound is refused
 pub settled-unsound : (p : Planner) (state shares segments result : List ℕ) (call : Call) → isSoundIn p shares ≡ false
     → let l = called p shares segments call in lent state shares segments (1 ∷ (0 ∷ (0 ∷ drop resultWords result))) 1 ≡ settled (l .answer .number) l state shares segments result
 unfolding settled unchanged answered refusal
 settled-unsound p state shares segments result call bad = rw (← (called-unsound p shares segments call bad))
-
-pub unreadable : (state shares segments result : List ℕ) (call : Call) → resultWords ≤ length result → readable state ≡ false
-    → lent state shares segments (1 ∷ (0 ∷ (0 ∷ drop resultWords result))) 1 ≡ stationed state shares segments result call
-unfolding stationed leftIn
-unreadable state shares segments result call room not-read =
-    let l = called (plannerIn state) shares segments call in
-    let then = settled (l .answer .number) l state shares segments result in
-    by-lt (length state) stateWords
-    (λ short. short-state state shares segments result then room short)
-    (λ long. settled-unsound (plannerIn state) state shares segments result call (unread state shares long not-read) ∙ long-enough state shares segments result then room long)
 
 -- a refused call leaves everything as it was
 Keeps : Left → Planner → List ℕ → List ℕ → Type 0
@@ -200,12 +177,10 @@ told-unsound-words : (p : Planner) (state shares result : List ℕ) (core : ℕ)
 unfolding toldBy toldWords answered refusal
 told-unsound-words p state shares result core bad = rw (← (told-unsound p shares core bad))
 
-pub holder-unreadable : (state shares result : List ℕ) (core : ℕ) → resultWords ≤ length result → readable state ≡ false
+pub holder-unsound : (state shares result : List ℕ) (core : ℕ) → stateWords ≤ length state → resultWords ≤ length result → isSoundIn (plannerIn state) shares ≡ false
     → lent state shares [] (1 ∷ (0 ∷ (0 ∷ drop resultWords result))) 1 ≡ holderIn state shares result core
 unfolding holderIn
-holder-unreadable state shares result core room not-read =
+holder-unsound state shares result core long room bad =
     let t = told (plannerIn state) shares core in
     let then = lent state shares [] (answered (toldWords (t .number) (t .holding)) result) (t .number) in
-    by-lt (length state) stateWords
-    (λ short. short-state state shares [] result then room short)
-    (λ long. told-unsound-words (plannerIn state) state shares result core (unread state shares long not-read) ∙ long-enough state shares [] result then room long)
+    told-unsound-words (plannerIn state) state shares result core bad ∙ long-enough state shares [] result then room long

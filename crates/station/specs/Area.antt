@@ -1,9 +1,9 @@
 -- The planner in words: a state area holds its fields one after the other, and a result area what a call hands back.
-use mathlib.Core.Bool.{Bool, _&&_}
+use mathlib.Core.Bool.{Bool}
 use mathlib.Core.List.{List, [], _∷_, _++_}
 use Prim.Native.Nat.{ℕ, zero, suc, max}
 use lib.Dec.{leb}
-use lib.ListN.{length, take, drop, getD}
+use lib.ListN.{take, drop, getD}
 use Rattle.rules.specs.declared.Task.{Task}
 use Rattle.rules.specs.Station.{slotCount, rowCount}
 use Rattle.rules.specs.Calls.{Answer}
@@ -64,10 +64,6 @@ mostField = 4294967295
 
 unfoldable pub fitting : List Task → Bool
 fitting ks = leb (widest ks) mostField
-
--- whether the area is long enough, and each word fits its field: what is asked before the planner is read from it
-unfoldable pub readable : List ℕ → Bool
-readable s = leb stateWords (length s) && fitting (tasksIn slotCount (drop tasksFrom s))
 
 -- a result area with an answer at its front
 unfoldable pub answered : Answer → List ℕ → List ℕ

@@ -1,16 +1,37 @@
 // The planner for a station in C or Rust: six calls on areas of words that the station lends. Each answers a refusal's number, 0 where the
-// call is done, and writes number, value and count into the result area.
-mod read; // read.rt: a planner from the words of a state area
-mod write; // write.rt: a planner into the words of a state area, and an answer into a result area
+// call is done, and writes number, value and count into the result area. The words are tested and changed where they lie.
+mod advance; // advance.rt: time goes on
+mod area; // area.rt: where a state area has its words
+mod check; // check.rt: whether a state area holds a sound table
+mod fresh; // fresh.rt: a state area as open leaves it
+mod number; // number.rt: the first reason that refuses a call
+mod release; // release.rt: a job is released
+mod slot; // slot.rt: a slot's task and its bit change
+mod tasks; // tasks.rt: the words of the tasks
+mod write; // write.rt: an answer into a result area
 
-use crate::read::STATE_WORDS;
-use crate::read::is_readable;
-use crate::read::unpack;
+use crate::advance::put_advanced;
+use crate::area::CLOCK;
+use crate::area::CORES;
+use crate::area::COUNT;
+use crate::area::ENDS_FROM;
+use crate::area::START;
+use crate::area::STATE_WORDS;
+use crate::check::is_sound;
+use crate::fresh::put_opened;
+use crate::number::advance_number;
+use crate::number::declare_number;
+use crate::number::release_number;
+use crate::number::withdraw_number;
+use crate::release::put_released;
+use crate::slot::put_declared;
+use crate::slot::put_withdrawn;
 use crate::write::RESULT_WORDS;
-use crate::write::settle;
 use crate::write::tell;
 use crate::write::tell_holder;
-use planner::Planner;
+use planner::look::holder_in;
+use planner::reason::open_reason;
+use table::zero::clear_table;
 ghost use mathlib.Core.Path.{_≡_};
 ghost use mathlib.Core.List.{[]};
 ghost use lib.ListN.{length};
@@ -33,8 +54,13 @@ pub extern "C" fn killaruna_open(
     if state.len() < STATE_WORDS {
         return tell(result, 1, 0, 0);
     }
-    let next = Planner::blank().open(shares, cores);
-    settle(state, next, result)
+    let number = open_reason(shares.len(), cores);
+    if number != 0 {
+        return tell(result, number, 0, 0);
+    }
+    clear_table(shares);
+    put_opened(state, cores);
+    tell(result, 0, cores, 0)
 }
 
 // Declare. Value: the slot.
@@ -51,11 +77,12 @@ pub extern "C" fn killaruna_declare(
     if result.len() < RESULT_WORDS {
         return 1;
     }
-    if !is_readable(state) {
-        return tell(result, 1, 0, 0);
+    let number = declare_number(state, shares, period, cost);
+    if number != 0 {
+        return tell(result, number, 0, 0);
     }
-    let next = unpack(state).declare(shares, period, cost);
-    settle(state, next, result)
+    let slot = put_declared(state, period, cost);
+    tell(result, 0, slot, 0)
 }
 
 // Withdraw. Value 0.
@@ -71,11 +98,12 @@ pub extern "C" fn killaruna_withdraw(
     if result.len() < RESULT_WORDS {
         return 1;
     }
-    if !is_readable(state) {
-        return tell(result, 1, 0, 0);
+    let number = withdraw_number(state, shares, slot);
+    if number != 0 {
+        return tell(result, number, 0, 0);
     }
-    let next = unpack(state).withdraw(shares, slot);
-    settle(state, next, result)
+    put_withdrawn(state, slot as usize);
+    tell(result, 0, 0, 0)
 }
 
 // Release. Value: the deadline.
@@ -91,11 +119,12 @@ pub extern "C" fn killaruna_release(
     if result.len() < RESULT_WORDS {
         return 1;
     }
-    if !is_readable(state) {
-        return tell(result, 1, 0, 0);
+    let number = release_number(state, shares, slot);
+    if number != 0 {
+        return tell(result, number, 0, 0);
     }
-    let next = unpack(state).release(shares, slot);
-    settle(state, next, result)
+    let d = put_released(state, shares, slot as usize);
+    tell(result, 0, d, 0)
 }
 
 // Advance. Value: the tick reached, and the count of segments.
@@ -112,11 +141,12 @@ pub extern "C" fn killaruna_advance(
     if result.len() < RESULT_WORDS {
         return 1;
     }
-    if !is_readable(state) {
-        return tell(result, 1, 0, 0);
+    let number = advance_number(state, shares, tick, segments.len());
+    if number != 0 {
+        return tell(result, number, 0, 0);
     }
-    let next = unpack(state).advance(shares, tick, segments);
-    settle(state, next, result)
+    let count = put_advanced(state, shares, tick, segments);
+    tell(result, 0, state[CLOCK], count)
 }
 
 // Holder: number, slot (64: idle) and grain (0: without a limit).
@@ -132,9 +162,17 @@ pub extern "C" fn killaruna_holder(
     if result.len() < RESULT_WORDS {
         return 1;
     }
-    if !is_readable(state) {
+    if !is_sound(state, shares) {
         return tell(result, 1, 0, 0);
     }
-    let holder = unpack(state).holder(shares, core);
+    let holder = holder_in(
+        state[CORES],
+        state[COUNT],
+        state[START],
+        state[CLOCK],
+        state[ENDS_FROM],
+        shares,
+        core,
+    );
     tell_holder(holder, result)
 }

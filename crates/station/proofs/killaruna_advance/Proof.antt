@@ -1,28 +1,30 @@
--- `killaruna_advance` leaves what `stationed` says: a result area that is too short, a state area that no planner can be read from, or what the
--- planner's advance leaves on the planner that was read.
-use mathlib.Core.Path.{sym, _∙_}
-use Prim.Native.Nat.{_≤_}
-use lib.ListN.{length, drop}
+-- `killaruna_advance` leaves what `stationed` says: a result area that is too short, a reason's number, or the table and the segments of the
+-- rules' advance; the tick reached is the clock that it left.
+use mathlib.Core.Path.{_≡_, sym, _∙_}
+use Prim.Native.Nat.{_-_, _≤_}
 use native.Mathlib.Omega.{arith}
 use borrow.Author.Needs.{needs}
-use borrow.Author.Tests.{not-true, not-false}
 use denote.Ref.{now}
+use lib.ListN.{length, getD}
 use Rattle.rules.specs.Calls.{advance}
-use Rattle.rules.specs.Station.{slotCount}
-use Rattle.station.specs.Area.{stateWords, resultWords, tasksFrom, mostField, tasksIn, widest}
+use Rattle.rules.specs.Advance.{advanced}
+use Rattle.planner.proofs.Called.{number-done}
+use Rattle.planner.proofs.Reasons.{advance-none, advance-number}
+use Rattle.planner.specs.Held.{tableOf, plannerOf}
+use Rattle.station.proofs.Going.{advanced-leaves}
+use Rattle.planner.specs.Reasons.{numberFor}
+use Rattle.station.specs.Area.{resultWords, plannerIn}
 use Rattle.station.specs.Station.{stationed, leftIn}
-use Rattle.station.proofs.Stationed.{read-from, short-result, unreadable, stationed-is}
+use Rattle.station.proofs.Numbers.{Holds, none-number, refused-lent, done-lent}
+use Rattle.station.proofs.Stationed.{short-result}
 use Rattle.station.proofs.killaruna_advance.Statement.{statement}
 use Rattle.station.proofs.killaruna_advance.Tie as tie
 
--- past both tests: the state area is long enough, each word of it fits, and the result area is long enough
-abbrev start : tie.Else2 → tie.Start
-start e = e .before .before .before .before .before .before .before .before
+-- nothing refuses it
+free-to : (e : tie.Else2) → let at = e .before .before .before .before .before .before .before .before .before .args in Holds (now (at .state)) (now (at .shares)) × (numberFor (plannerIn (now (at .state))) (now (at .shares)) (advance (at .tick) (length (now (at .segments)))) ≡ 0)
+free-to e = let at = e .before .before .before .before .before .before .before .before .before .args in none-number (now (at .state)) (now (at .shares)) (advance (at .tick) (length (now (at .segments)))) (sym (e .before .advance-number .ensures) ∙ e .if2 .left)
 
-ready : (e : tie.Else2) → (stateWords ≤ length (now (start e .args .state))) × (widest (tasksIn slotCount (drop tasksFrom (now (start e .args .state)))) ≤ mostField)
-ready e = read-from (now (start e .args .state)) (sym (e .before .is-readable .ensures) ∙ not-false (e .before .is-readable .result) (e .if2 .left))
-
-room : (e : tie.Else2) → resultWords ≤ length (now (start e .args .result))
+room : (e : tie.Else2) → resultWords ≤ length (now (e .before .before .before .before .before .before .before .before .before .args .result))
 room e = omega arith
 
 returns : tie.Need-returns
@@ -33,43 +35,55 @@ returns c =
 
 returns-2 : tie.Need-returns-2
 returns-2 c =
-    let e = c .before .before .before .before in
-    let at = e .before .before .before .before .before .before .before .before .args in
     let t = c .before .before .tell .ensures in
-    let bad = sym (e .before .is-readable .ensures) ∙ not-true (e .before .is-readable .result) (e .if2 .taken) in
-    rw (t .0, t .1) (unreadable (now (at .state)) (now (at .shares)) (now (at .segments)) (now (at .result)) (advance (at .tick) (length (now (at .segments)))) (omega arith) bad)
+    let u = c .before .before .before .before in
+    let at = u .before .before .before .before .before .before .before .before .before .args in
+    let number = u .before .advance-number in
+    rw (t .0, t .1) (refused-lent (now (at .state)) (now (at .shares)) (now (at .segments)) (now (at .result)) (advance (at .tick) (length (now (at .segments)))) (omega arith) (number .result) (number .ensures) (λ z. omega (arith, u .if2 .taken)))
 
-unpack-requires : tie.Need-unpack-requires
-unpack-requires c κs = ready (c .before)
+put-advanced-requires : tie.Need-put-advanced-requires
+unfolding plannerIn
+put-advanced-requires c κs =
+    let e = c .before .before .before in
+    let at = e .before .before .before .before .before .before .before .before .before .args in
+    let f = free-to e in
+    let none = advance-none (plannerIn (now (at .state)) .clock) (at .tick) (length (now (at .segments))) (sym (advance-number (f .0 .sound) (f .0 .agrees) (at .tick) (length (now (at .segments)))) ∙ f .1) in
+    (f .0 .long, f .0 .agrees, none .0, none .2)
 
-settle-requires : tie.Need-settle-requires
-settle-requires c κs = let e = c .before .before .before .before .before .before .before .before .before .before .before in (ready e .0, room e)
+slice-read-tell : tie.Need-slice-read-tell
+slice-read-tell c = omega (arith, c .before .before .before .before .before .before .before .before .put-advanced .kept .0, free-to (c .before .before .before .before .before .before .before .before .before .before .before .before) .0 .long)
 
 returns-3 : tie.Need-returns-3
 returns-3 c =
-    let s = c .before .before .before .before in
-    let e = s .before .before .before .before .before .before .before .before .before .before .before .before in
-    let at = start e .args in
-    let u = s .before .before .before .before .before .before .before .before .before .before .unpack .ensures in
-    let d = s .before .before .before .before .before .before .before .advance in
-    s .settle .ensures (d .last .1 .0) (d .last .1 .1 .1 .0)
-    ∙ stationed-is (now (at .state)) (now (at .shares)) (now (at .segments)) (now (at .result)) (advance (at .tick) (length (now (at .segments)))) (d .result) (d .last .1 .0) (d .last .1 .1 .1 .0) (ready e .0) (room e) (rw u at (d .ensures))
+    let t = c .before .before .tell2 .ensures in
+    let put = c .before .before .before .before .before .before .before .before .before .before .before .put-advanced in
+    let e = c .before .before .before .before .before .before .before .before .before .before .before .before .before .before .before in
+    let at = e .before .before .before .before .before .before .before .before .before .args in
+    let f = free-to e in
+    let s = now (at .state) in
+    let w = now (at .shares) in
+    let b = now (at .segments) in
+    let p = plannerIn s in
+    let call = advance (at .tick) (length b) in
+    let left = advanced-leaves (tableOf p w) (at .tick) (length b) (put .ensures) ∙ number-done (f .0 .sound) (f .0 .agrees) b call (f .1) in
+    rw (t .0, t .1) (done-lent s w b (now (at .result)) call (room e) (plannerOf (advanced (tableOf p w) (at .tick))) (getD (put .last .0) 1 0) (put .result) (f .0 .long) left (put .ensures .state))
 
 pub killaruna-advance-spec : {M : Type 1} → statement M
 killaruna-advance-spec =
     tie.close
     (tie.spec
     returns
-    (λ c κs. search needs)  -- is-readable-requires
+    (λ c κs. search needs)  -- advance-number-requires
     (λ c κs. search needs)  -- tell-requires
     (λ c. search needs)  -- same-length
     (λ c. search needs)  -- same-length-2
-    returns-2
-    unpack-requires
-    (λ c κs. search needs)  -- advance-requires
-    settle-requires
     (λ c. search needs)  -- same-length-3
+    returns-2
+    put-advanced-requires
+    slice-read-tell
+    (λ c κs. search needs)  -- tell-requires-2
     (λ c. search needs)  -- same-length-4
     (λ c. search needs)  -- same-length-5
     (λ c. search needs)  -- same-length-6
+    (λ c. search needs)  -- same-length-7
     returns-3)

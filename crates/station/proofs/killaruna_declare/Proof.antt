@@ -1,29 +1,29 @@
--- `killaruna_declare` leaves what `stationed` says: a result area that is too short, a state area that no planner can be read from, or what the
--- planner's declare leaves on the planner that was read.
+-- `killaruna_declare` leaves what `stationed` says: a result area that is too short, a reason's number, or the new task in its slot.
 use mathlib.Core.List.{[]}
-use mathlib.Core.Path.{sym, _∙_}
-use Prim.Native.Nat.{_≤_}
-use lib.ListN.{length, drop}
+use mathlib.Core.Path.{_≡_, refl, sym, _∙_}
+use Prim.Native.Nat.{_+_, _-_, _^_, _≤_}
 use native.Mathlib.Omega.{arith}
 use borrow.Author.Needs.{needs}
-use borrow.Author.Tests.{not-true, not-false}
 use denote.Ref.{now}
+use lib.ListN.{length}
 use Rattle.rules.specs.Calls.{declare}
-use Rattle.rules.specs.Station.{slotCount}
-use Rattle.station.specs.Area.{stateWords, resultWords, tasksFrom, mostField, tasksIn, widest}
+use Rattle.rules.specs.Station.{rateOf}
+use Rattle.sound.specs.Lent.{taskWith}
+use Rattle.planner.proofs.Declaring.{declared-lawful, declared-slot, declared-bit, declared-leaves}
+use Rattle.planner.specs.Held.{withSlot}
+use Rattle.planner.specs.Reasons.{numberFor}
+use Rattle.station.specs.Area.{resultWords, plannerIn}
 use Rattle.station.specs.Station.{stationed, leftIn}
-use Rattle.station.proofs.Stationed.{read-from, short-result, unreadable, stationed-is}
+use Rattle.station.proofs.Numbers.{Holds, none-number, refused-lent, done-lent}
+use Rattle.station.proofs.Stationed.{short-result}
 use Rattle.station.proofs.killaruna_declare.Statement.{statement}
 use Rattle.station.proofs.killaruna_declare.Tie as tie
 
--- past both tests: the state area is long enough, each word of it fits, and the result area is long enough
-abbrev start : tie.Else2 → tie.Start
-start e = e .before .before .before .before .before .before .before
+-- nothing refuses it
+free-to : (e : tie.Else2) → let at = e .before .before .before .before .before .before .before .args in Holds (now (at .state)) (now (at .shares)) × (numberFor (plannerIn (now (at .state))) (now (at .shares)) (declare (at .period) (at .cost)) ≡ 0)
+free-to e = let at = e .before .before .before .before .before .before .before .args in none-number (now (at .state)) (now (at .shares)) (declare (at .period) (at .cost)) (sym (e .before .declare-number .ensures) ∙ e .if2 .left)
 
-ready : (e : tie.Else2) → (stateWords ≤ length (now (start e .args .state))) × (widest (tasksIn slotCount (drop tasksFrom (now (start e .args .state)))) ≤ mostField)
-ready e = read-from (now (start e .args .state)) (sym (e .before .is-readable .ensures) ∙ not-false (e .before .is-readable .result) (e .if2 .left))
-
-room : (e : tie.Else2) → resultWords ≤ length (now (start e .args .result))
+room : (e : tie.Else2) → resultWords ≤ length (now (e .before .before .before .before .before .before .before .args .result))
 room e = omega arith
 
 returns : tie.Need-returns
@@ -34,41 +34,48 @@ returns c =
 
 returns-2 : tie.Need-returns-2
 returns-2 c =
-    let e = c .before .before .before .before in
-    let at = e .before .before .before .before .before .before .before .args in
     let t = c .before .before .tell .ensures in
-    let bad = sym (e .before .is-readable .ensures) ∙ not-true (e .before .is-readable .result) (e .if2 .taken) in
-    rw (t .0, t .1) (unreadable (now (at .state)) (now (at .shares)) [] (now (at .result)) (declare (at .period) (at .cost)) (omega arith) bad)
+    let u = c .before .before .before .before in
+    let at = u .before .before .before .before .before .before .before .args in
+    let number = u .before .declare-number in
+    rw (t .0, t .1) (refused-lent (now (at .state)) (now (at .shares)) [] (now (at .result)) (declare (at .period) (at .cost)) (omega arith) (number .result) (number .ensures) (λ z. omega (arith, u .if2 .taken)))
 
-unpack-requires : tie.Need-unpack-requires
-unpack-requires c κs = ready (c .before)
-
-settle-requires : tie.Need-settle-requires
-settle-requires c κs = let e = c .before .before .before .before .before in (ready e .0, room e)
+put-declared-requires : tie.Need-put-declared-requires
+put-declared-requires c κs =
+    let e = c .before in
+    let at = e .before .before .before .before .before .before .before .args in
+    let f = free-to e in
+    let lawful = declared-lawful (f .0 .sound) (f .0 .agrees) (at .period) (at .cost) (f .1) in
+    (f .0 .long, declared-slot (f .0 .sound) (f .0 .agrees) (at .period) (at .cost) (f .1) _ refl, declared-bit (f .0 .sound) (f .0 .agrees) (at .period) (at .cost) (f .1) _ refl, lawful .0, lawful .1, lawful .2)
 
 returns-3 : tie.Need-returns-3
 returns-3 c =
-    let s = c .before .before .before .before in
-    let e = s .before .before .before .before .before .before in
-    let at = start e .args in
-    let u = s .before .before .before .before .unpack .ensures in
-    let d = s .before .before .before .declare in
-    s .settle .ensures (now (at .shares)) []
-    ∙ stationed-is (now (at .state)) (now (at .shares)) [] (now (at .result)) (declare (at .period) (at .cost)) (d .result) (now (at .shares)) [] (ready e .0) (room e) (rw u at (d .ensures))
+    let t = c .before .before .tell2 .ensures in
+    let put = c .before .before .before .before .before .before .put-declared in
+    let e = c .before .before .before .before .before .before .before .before in
+    let at = e .before .before .before .before .before .before .before .args in
+    let f = free-to e in
+    let s = now (at .state) in
+    let w = now (at .shares) in
+    let p = plannerIn s in
+    let slot = put .result in
+    let k = taskWith (at .period) (at .cost) (rateOf (at .period) (at .cost)) 0 in
+    let used = p .used + 2 ^ slot in
+    let left = declared-leaves (f .0 .sound) (f .0 .agrees) (at .period) (at .cost) (f .1) slot used k (put .ensures .0) refl refl refl refl refl in
+    rw (t .0, t .1) (done-lent s w [] (now (at .result)) (declare (at .period) (at .cost)) (room e) (withSlot p slot k used) slot 0 (f .0 .long) left (put .ensures .1))
 
 pub killaruna-declare-spec : {M : Type 1} → statement M
 killaruna-declare-spec =
     tie.close
     (tie.spec
     returns
-    (λ c κs. search needs)  -- is-readable-requires
+    (λ c κs. search needs)  -- declare-number-requires
     (λ c κs. search needs)  -- tell-requires
     (λ c. search needs)  -- same-length
     (λ c. search needs)  -- same-length-2
     returns-2
-    unpack-requires
-    (λ c κs. search needs)  -- declare-requires
-    settle-requires
+    put-declared-requires
+    (λ c κs. search needs)  -- tell-requires-2
     (λ c. search needs)  -- same-length-3
     (λ c. search needs)  -- same-length-4
     returns-3)

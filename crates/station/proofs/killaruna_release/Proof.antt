@@ -1,29 +1,30 @@
--- `killaruna_release` leaves what `stationed` says: a result area that is too short, a state area that no planner can be read from, or what the
--- planner's release leaves on the planner that was read.
+-- `killaruna_release` leaves what `stationed` says: a result area that is too short, a reason's number, or the released table.
 use mathlib.Core.List.{[]}
-use mathlib.Core.Path.{sym, _∙_}
-use Prim.Native.Nat.{_≤_}
-use lib.ListN.{length, drop}
+use mathlib.Core.Path.{_≡_, refl, sym, _∙_}
+use Prim.Native.Nat.{_+_, _-_, _≤_}
 use native.Mathlib.Omega.{arith}
 use borrow.Author.Needs.{needs}
-use borrow.Author.Tests.{not-true, not-false}
 use denote.Ref.{now}
+use lib.ListN.{length, getD}
 use Rattle.rules.specs.Calls.{release}
-use Rattle.rules.specs.Station.{slotCount}
-use Rattle.station.specs.Area.{stateWords, resultWords, tasksFrom, mostField, tasksIn, widest}
+use Rattle.rules.specs.Release.{released}
+use Rattle.rules.specs.Station.{free}
+use Rattle.planner.proofs.Called.{number-done}
+use Rattle.planner.proofs.Releasing.{released-asked, release-left}
+use Rattle.planner.specs.Held.{tableOf, plannerOf, leaves, answerOf}
+use Rattle.planner.specs.Reasons.{numberFor}
+use Rattle.station.specs.Area.{resultWords, plannerIn}
 use Rattle.station.specs.Station.{stationed, leftIn}
-use Rattle.station.proofs.Stationed.{read-from, short-result, unreadable, stationed-is}
+use Rattle.station.proofs.Numbers.{Holds, none-number, refused-lent, done-lent}
+use Rattle.station.proofs.Stationed.{short-result}
 use Rattle.station.proofs.killaruna_release.Statement.{statement}
 use Rattle.station.proofs.killaruna_release.Tie as tie
 
--- past both tests: the state area is long enough, each word of it fits, and the result area is long enough
-abbrev start : tie.Else2 → tie.Start
-start e = e .before .before .before .before .before .before .before
+-- nothing refuses it
+free-to : (e : tie.Else2) → let at = e .before .before .before .before .before .before .before .before .args in Holds (now (at .state)) (now (at .shares)) × (numberFor (plannerIn (now (at .state))) (now (at .shares)) (release (at .slot)) ≡ 0)
+free-to e = let at = e .before .before .before .before .before .before .before .before .args in none-number (now (at .state)) (now (at .shares)) (release (at .slot)) (sym (e .before .release-number .ensures) ∙ e .if2 .left)
 
-ready : (e : tie.Else2) → (stateWords ≤ length (now (start e .args .state))) × (widest (tasksIn slotCount (drop tasksFrom (now (start e .args .state)))) ≤ mostField)
-ready e = read-from (now (start e .args .state)) (sym (e .before .is-readable .ensures) ∙ not-false (e .before .is-readable .result) (e .if2 .left))
-
-room : (e : tie.Else2) → resultWords ≤ length (now (start e .args .result))
+room : (e : tie.Else2) → resultWords ≤ length (now (e .before .before .before .before .before .before .before .before .args .result))
 room e = omega arith
 
 returns : tie.Need-returns
@@ -34,42 +35,48 @@ returns c =
 
 returns-2 : tie.Need-returns-2
 returns-2 c =
-    let e = c .before .before .before .before in
-    let at = e .before .before .before .before .before .before .before .args in
     let t = c .before .before .tell .ensures in
-    let bad = sym (e .before .is-readable .ensures) ∙ not-true (e .before .is-readable .result) (e .if2 .taken) in
-    rw (t .0, t .1) (unreadable (now (at .state)) (now (at .shares)) [] (now (at .result)) (release (at .slot)) (omega arith) bad)
+    let u = c .before .before .before .before in
+    let at = u .before .before .before .before .before .before .before .before .args in
+    let number = u .before .release-number in
+    rw (t .0, t .1) (refused-lent (now (at .state)) (now (at .shares)) [] (now (at .result)) (release (at .slot)) (omega arith) (number .result) (number .ensures) (λ z. omega (arith, u .if2 .taken)))
 
-unpack-requires : tie.Need-unpack-requires
-unpack-requires c κs = ready (c .before)
-
-settle-requires : tie.Need-settle-requires
-settle-requires c κs = let e = c .before .before .before .before .before .before .before .before in (ready e .0, room e)
+put-released-requires : tie.Need-put-released-requires
+put-released-requires c κs =
+    let e = c .before .before in
+    let at = e .before .before .before .before .before .before .before .before .args in
+    let f = free-to e in
+    (f .0 .long, released-asked (f .0 .sound) (f .0 .agrees) (at .slot) (f .1))
 
 returns-3 : tie.Need-returns-3
+unfolding leaves answerOf
 returns-3 c =
-    let s = c .before .before .before .before in
-    let e = s .before .before .before .before .before .before .before .before .before in
-    let at = start e .args in
-    let u = s .before .before .before .before .before .before .before .unpack .ensures in
-    let d = s .before .before .before .before .before .release in
-    s .settle .ensures (d .last .1 .0) []
-    ∙ stationed-is (now (at .state)) (now (at .shares)) [] (now (at .result)) (release (at .slot)) (d .result) (d .last .1 .0) [] (ready e .0) (room e) (rw u at (d .ensures))
+    let t = c .before .before .tell2 .ensures in
+    let put = c .before .before .before .before .before .before .before .before .put-released .ensures in
+    let e = c .before .before .before .before .before .before .before .before .before .before .before in
+    let at = e .before .before .before .before .before .before .before .before .args in
+    let f = free-to e in
+    let s = now (at .state) in
+    let w = now (at .shares) in
+    let p = plannerIn s in
+    let d = p .clock + getD (p .tasks) (at .slot) free .period in
+    let left = release-left p w (at .slot) refl (put .2) ∙ number-done (f .0 .sound) (f .0 .agrees) [] (release (at .slot)) (f .1) in
+    rw (t .0, t .1, put .0) (done-lent s w [] (now (at .result)) (release (at .slot)) (room e) (plannerOf (released (tableOf p w) (at .slot))) d 0 (f .0 .long) left (put .1))
 
 pub killaruna-release-spec : {M : Type 1} → statement M
 killaruna-release-spec =
     tie.close
     (tie.spec
     returns
-    (λ c κs. search needs)  -- is-readable-requires
+    (λ c κs. search needs)  -- release-number-requires
     (λ c κs. search needs)  -- tell-requires
     (λ c. search needs)  -- same-length
     (λ c. search needs)  -- same-length-2
-    returns-2
-    unpack-requires
-    (λ c κs. search needs)  -- release-requires
-    settle-requires
     (λ c. search needs)  -- same-length-3
+    returns-2
+    put-released-requires
+    (λ c κs. search needs)  -- tell-requires-2
     (λ c. search needs)  -- same-length-4
     (λ c. search needs)  -- same-length-5
+    (λ c. search needs)  -- same-length-6
     returns-3)

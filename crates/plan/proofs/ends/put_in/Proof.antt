@@ -5,37 +5,38 @@ use Prim.Native.Nat.{_-_, _≤_}
 use native.Mathlib.Omega.{arith}
 use lib.ListN.{length, getD}
 use borrow.Author.Needs.{needs}
+use denote.Ref.{now}
 use Rattle.plan.specs.Planned.{putIn}
 use Rattle.plan.proofs.Bounds.{put-none, put-set, put-more}
 use Rattle.plan.proofs.ends.put_in.Statement.{statement}
 use Rattle.plan.proofs.ends.put_in.Tie as tie
 
 abbrev Inv-loop : tie.InvT-loop
-Inv-loop k count d next₀ j₀ next j = (k ≤ j) × (j ≤ count) × (next ≡ putIn j count (getD next₀ j 0) next₀)
+Inv-loop ends₀ k count d j₀ ends j = (k ≤ j) × (j ≤ count) × (length ends ≡ length ends₀) × (ends ≡ putIn j count (getD ends₀ j 0) ends₀)
 
 abbrev μ-loop : tie.MeasureT-loop
-μ-loop k count d next₀ j₀ next j = j
+μ-loop ends₀ k count d j₀ ends j = j
 
 loop-holds : tie.Need-loop-holds Inv-loop μ-loop
 loop-holds c =
-    let wide : length (c .args .ends) ≡ 64 = omega arith in
-    (search needs, search needs, sym (put-none (c .args .count) (c .args .ends) (omega arith)))
+    let at = c .args in
+    (search needs, search needs, search needs, sym (put-none (at .count) (now (at .ends)) (omega arith)))
 
 loop-again : tie.Need-loop-again Inv-loop μ-loop
 loop-again c =
-    let k = c .before in
+    let k = c .before .before in
     let at = k .before .args in
     let j = k .loop .j in
-    let wide : length (at .ends) ≡ 64 = omega arith in
-    (search needs, search needs, rw (k .loop .inv .2) (put-more (at .count) (at .ends) (omega arith) (j - 1) j (getD (at .ends) j 0) (omega arith) (omega arith)))
+    let w = now (at .ends) in
+    (search needs, search needs, search needs, rw (k .loop .inv .3) (put-more (at .count) w (omega arith) (j - 1) j (getD w j 0) (omega arith) (omega arith)))
 
 returns : tie.Need-returns Inv-loop μ-loop
 returns c =
     let k = c .before in
     let at = k .before .args in
-    let wide : length (at .ends) ≡ 64 = omega arith in
+    let w = now (at .ends) in
     let end : k .loop .j ≡ at .k = omega arith in
-    rw (k .loop .inv .2, end) (put-set (at .count) (at .ends) (omega arith) (at .k) (getD (at .ends) (at .k) 0) (at .d) (omega arith))
+    rw (k .loop .inv .3, end) (put-set (at .count) w (omega arith) (at .k) (getD w (at .k) 0) (at .d) (omega arith))
 
 pub put-in-spec : {M : Type 1} → statement M
 put-in-spec =
@@ -44,14 +45,15 @@ put-in-spec =
     Inv-loop
     μ-loop
     loop-holds
-    (λ c. search needs)  -- sub-next
-    (λ c. search needs)  -- mul-next
-    (λ c. search needs)  -- array-read-next
-    (λ c. search needs)  -- mul-next-2
-    (λ c. search needs)  -- array-write-next
+    (λ c. search needs)  -- sub-ends
+    (λ c. search needs)  -- mul-ends
+    (λ c. search needs)  -- slice-read-ends
+    (λ c. search needs)  -- mul-ends-2
+    (λ c. search needs)  -- slice-write-ends
     (λ c. search needs)  -- sub-j
     (λ c. search needs)  -- loop-less
     loop-again
-    (λ c. search needs)  -- mul-next-3
-    (λ c. search needs)  -- array-write-next-2
+    (λ c. search needs)  -- mul-ends-3
+    (λ c. search needs)  -- slice-write-ends-2
+    (λ c. search needs)  -- same-length
     returns)

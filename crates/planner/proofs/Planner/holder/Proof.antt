@@ -1,14 +1,14 @@
--- `holder` refuses by document 01's two reasons in their order, says idle where no slice is held, and otherwise looks at slice 0.
--- The check's yes is had once (`fine`); each return is then one law of Looking.antt.
+-- `holder` refuses a table that is not sound, and otherwise looks at what is held.
+-- A sound table's slice 0 can be looked at, and the answer is the rules' (`told-now`).
 use mathlib.Core.Path.{_≡_, sym, _∙_}
 use mathlib.Core.Bool.{true}
-use native.Mathlib.Omega.{arith}
 use borrow.Author.Needs.{needs}
 use denote.Ref.{now}
 use borrow.Author.Tests.{not-true, not-false}
 use Rattle.planner.specs.Held.{Agrees, isSoundIn}
-use Rattle.planner.proofs.Joint.{agrees}
-use Rattle.planner.proofs.Looking.{told-unsound, told-thirteen, told-done, holder-none}
+use Rattle.planner.proofs.Joint.{agrees, cores-range}
+use Rattle.planner.proofs.First.{front}
+use Rattle.planner.proofs.Looking.{told-unsound, told-now}
 use Rattle.planner.proofs.Planner.holder.Statement.{statement}
 use Rattle.planner.proofs.Planner.holder.Tie as tie
 
@@ -24,35 +24,11 @@ returns c =
     let at = c .before .before .before .args in
     told-unsound (at .self) (now (at .shares)) (at .core) (sym (c .before .sound .ensures .0) ∙ not-true _ (c .if1 .taken))
 
+holder-in-requires : tie.Need-holder-in-requires
+holder-in-requires c κs = let a = fine (c .before) .1 in (cores-range a, λ some. front a some)
+
 returns-2 : tie.Need-returns-2
-returns-2 c =
-    let at = c .before .before .before .before .before .args in
-    let f = fine (c .before .before) in
-    let past = c .if2 .taken in
-    told-thirteen (f .0) (f .1) (at .core) (omega arith)
-
-returns-3 : tie.Need-returns-3
-returns-3 c =
-    let at = c .before .before .before .before .before .before .before .args in
-    let f = fine (c .before .before .before .before) in
-    let none = c .if3 .taken in
-    let in-range = c .before .before .if2 .left in
-    holder-none (f .1) (at .core) (omega arith) ∙ told-done (f .0) (f .1) (at .core) (omega arith)
-
-holder-now-requires : tie.Need-holder-now-requires
-holder-now-requires c κs =
-    let f = fine (c .before .before .before .before) in
-    let some = c .if3 .left in
-    let in-range = c .before .before .if2 .left in
-    (f .1, omega arith, omega arith)
-
-returns-4 : tie.Need-returns-4
-returns-4 c =
-    let at = c .before .before .before .before .before .before .before .before .args in
-    let f = fine (c .before .before .before .before .before) in
-    let in-range = c .before .before .before .if2 .left in
-    c .holder-now .ensures ∙ told-done (f .0) (f .1) (at .core) (omega arith)
+returns-2 c = let f = fine (c .before .before) in c .holder-in .ensures ∙ told-now (f .0) (f .1) (c .before .before .before .before .before .args .core)
 
 pub holder-spec : {M : Type 1} → statement M
-holder-spec =
-    tie.close (tie.spec (λ c κs. search needs) returns returns-2 returns-3 holder-now-requires returns-4)
+holder-spec = tie.close (tie.spec (λ c κs. search needs) returns (λ c. search needs) holder-in-requires returns-2)

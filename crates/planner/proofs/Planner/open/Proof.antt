@@ -1,38 +1,38 @@
--- `open` leaves what the rules say: a return for each of its two reasons, and one for the fresh table with all words zero.
--- Each test in the code is the test of a reason; the words are what a cleared table and a fresh planner's rows both are.
-use mathlib.Core.Path.{_∙_}
-use mathlib.Core.Logic.{⊎-elim}
+-- `open` leaves what the rules say: everything as it was with a reason's number, or the fresh table with all words zero.
+-- The words are what a cleared table and a fresh planner's rows both are.
+use mathlib.Core.Path.{_≡_, sym, _∙_}
 use mathlib.Core.List.{[]}
-use Prim.Native.Nat.{_≤_}
+use native.Mathlib.Omega.{arith}
 use borrow.Author.Needs.{needs}
-use borrow.Author.Tests.{ltb-true, ltb-false}
 use denote.Ref.{now}
 use lib.ListN.{length}
-use Rattle.planner.proofs.Opening.{open-short, open-none, open-many, open-done}
+use Rattle.rules.specs.Calls.{refused, openRefusals}
+use Rattle.planner.proofs.Opening.{open-refused, open-room, open-done}
 use Rattle.planner.proofs.Planner.open.Statement.{statement}
 use Rattle.planner.proofs.Planner.open.Tie as tie
 
 returns : tie.Need-returns
 returns c =
-    let at = c .before .before .before .args in
-    c .refuse .ensures (now (at .shares)) [] ∙ open-short (at .self) (now (at .shares)) (at .cores) (c .before .if1 .taken)
+    let r = c .before .before .open-reason in
+    let at = c .before .before .before .before .args in
+    c .refuse .ensures (now (at .shares)) [] ∙ open-refused (at .self) (now (at .shares)) (at .cores) (r .result) (r .ensures) (λ z. omega arith)
+
+-- nothing refuses it
+free-to : (e : tie.Else1) → let at = e .before .before .before .args in refused (openRefusals (length (now (at .shares))) (at .cores)) ≡ 0
+free-to e = sym (e .before .open-reason .ensures) ∙ e .if1 .left
+
+clear-table-requires : tie.Need-clear-table-requires
+clear-table-requires c κs =
+    let e = c .before in
+    let at = e .before .before .before .args in
+    open-room (at .self) (now (at .shares)) (at .cores) (free-to e)
 
 returns-2 : tie.Need-returns-2
 returns-2 c =
-    let at = c .before .before .before .before .args in
-    let w = now (at .shares) in
-    let room : 4096 ≤ length w = c .before .before .if1 .left in
-    c .refuse2 .ensures w [] ∙ ⊎-elim (λ x. open-none (at .self) w (at .cores) room (x .taken)) (λ x. open-many (at .self) w (at .cores) room (ltb-true 16 (at .cores) (x .1 .taken))) (c .before .if2 .came)
-
-returns-3 : tie.Need-returns-3
-returns-3 c =
     let got = c .before .before .before .clear-table in
-    let u = c .before .before .before .before in
-    let at = u .before .before .before .before .before .args in
-    let few = u .before .if3 .left in
-    let some = u .before .before .if2 .left in
-    let room = u .before .before .before .if1 .left in
-    rw (c .fresh .ensures) (open-done (at .self) (now (at .shares)) (at .cores) room some (ltb-false 16 (at .cores) few) (got .last .0) (got .ensures))
+    let e = c .before .before .before .before .before in
+    let at = e .before .before .before .args in
+    rw (c .fresh .ensures) (open-done (at .self) (now (at .shares)) (at .cores) (free-to e) (got .last .0) (got .ensures))
 
 pub open-spec : {M : Type 1} → statement M
-open-spec = tie.close (tie.spec (λ c κs. search needs) returns (λ c κs. search needs) returns-2 (λ c κs. search needs) (λ c κs. search needs) (λ c. search needs) returns-3)
+open-spec = tie.close (tie.spec (λ c κs. search needs) (λ c κs. search needs) returns clear-table-requires (λ c κs. search needs) (λ c. search needs) returns-2)

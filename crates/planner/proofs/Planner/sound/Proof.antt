@@ -1,12 +1,8 @@
 -- `sound` asks the crate `sound` of the same name, field by field. That 64 boundaries are held is the array's own length.
 use Rattle.planner.specs.Held.{isSoundIn}
-use mathlib.Core.Path.{_≡_, refl}
-use mathlib.Core.List.{_++_}
-use Prim.Native.Nat.{_+_, _-_, _*_, _<_, _≤_}
-use native.Mathlib.Omega.{arith}
+use Prim.Native.Nat.{_-_}
 use borrow.Author.Needs.{needs}
-use denote.Ref.{now}
-use lib.ListN.{length, take, drop, getD, set}
+use lib.ListN.{length}
 use Rattle.planner.proofs.Planner.sound.Statement.{statement}
 use Rattle.planner.proofs.Planner.sound.Tie as tie
 use Rattle.planner.proofs.Planner.sound.Reads as reads

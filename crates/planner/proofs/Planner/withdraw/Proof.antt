@@ -1,103 +1,68 @@
--- `withdraw` leaves what the rules say: a return for each reason, in document 01's order, and one for the slot that is free again.
--- A table that passed the check is the rules' table, so each test in the code is the test of a reason.
-use mathlib.Core.Path.{sym, _∙_}
-use mathlib.Core.List.{[]}
-use Prim.Native.Nat.{_-_}
+-- `withdraw` leaves what the rules say: everything as it was with a reason's number, or the slot free again.
+-- That the number is 0 says that the slot is in use, so its bit is there to be taken away.
+use mathlib.Core.Path.{_≡_, sym, _∙_}
+use mathlib.Core.Bool.{true}
 use native.Mathlib.Omega.{arith}
 use borrow.Author.Needs.{needs}
-use borrow.Author.Tests.{not-true, not-false}
 use denote.Ref.{now}
+use Rattle.planner.specs.Held.{Agrees, isSoundIn}
+use Rattle.planner.specs.Reasons.{numberFor}
+use mathlib.Core.List.{[]}
+use Prim.Native.Nat.{_-_}
 use Rattle.rules.specs.Station.{free}
 use Rattle.rules.specs.Calls.{withdraw}
-use Rattle.planner.proofs.Called.{called-unsound}
-use Rattle.planner.proofs.Withdrawn.{withdraw-past, withdraw-free, withdraw-pending, bit-held, withdraw-done}
+use Rattle.planner.proofs.Called.{number-refused, number-agrees}
+use Rattle.planner.proofs.Withdrawn.{withdrawn-inside, withdrawn-bit, withdrawn-leaves}
 use Rattle.planner.proofs.Planner.withdraw.Statement.{statement}
 use Rattle.planner.proofs.Planner.withdraw.Tie as tie
 
 returns : tie.Need-returns
 returns c =
-    let s = c .before .before in
-    let at = s .before .before .args in
-    c .refuse .ensures (now (at .shares)) []
-    ∙ called-unsound (at .self) (now (at .shares)) [] (withdraw (at .slot)) (sym (s .sound .ensures .0) ∙ not-true (s .sound .result) (c .before .if1 .taken))
-
-returns-2 : tie.Need-returns-2
-returns-2 c =
-    let s = c .before .before .before in
-    let at = s .before .before .args in
+    let at = c .before .before .before .before .args in
+    let r = c .before .before .withdraw-number in
     let w = now (at .shares) in
-    let ok = sym (s .sound .ensures .0) ∙ not-false (s .sound .result) (c .before .before .if1 .left) in
-    c .refuse2 .ensures w [] ∙ withdraw-past (at .self) w (s .sound .ensures .1) ok (at .slot) (c .before .if2 .taken)
+    c .refuse .ensures w [] ∙ number-refused (at .self) w (withdraw (at .slot)) (r .ensures .1) (r .result) (r .ensures .0) (λ z. c .before .if1 .taken z) []
 
-returns-3 : tie.Need-returns-3
-unfolding free
-returns-3 c =
-    let s = c .before .before .before .before .before .before .before in
-    let at = s .before .before .args in
-    let w = now (at .shares) in
-    let ok = sym (s .sound .ensures .0) ∙ not-false (s .sound .result) (c .before .before .before .before .before .before .if1 .left) in
-    c .refuse3 .ensures w [] ∙ withdraw-free (at .self) w (s .sound .ensures .1) ok (at .slot) (c .before .if3 .taken)
+-- no reason holds
+abbrev start : tie.Else1 → tie.Start
+start e = e .before .before .before
 
-returns-4 : tie.Need-returns-4
-unfolding free
-returns-4 c =
-    let k = c .before .before .before in
-    let u = k .before .before .before .before in
-    let s = u .before .before in
-    let at = s .before .before .args in
-    let w = now (at .shares) in
-    let ok = sym (s .sound .ensures .0) ∙ not-false (s .sound .result) (u .before .if1 .left) in
-    let few = u .if2 .left in
-    let some = k .if3 .left in
-    c .refuse4 .ensures w [] ∙ withdraw-pending (at .self) w (s .sound .ensures .1) ok (at .slot) (omega arith) (omega arith) (c .before .if4 .taken)
+none : (e : tie.Else1) → let at = start e .args in numberFor (at .self) (now (at .shares)) (withdraw (at .slot)) ≡ 0
+none e = sym (e .before .withdraw-number .ensures .0) ∙ e .if1 .left
+
+fit : (e : tie.Else1) → let at = start e .args in (isSoundIn (at .self) (now (at .shares)) ≡ true) × Agrees (at .self) (now (at .shares))
+fit e = let at = start e .args in number-agrees (at .self) (now (at .shares)) (withdraw (at .slot)) (e .before .withdraw-number .ensures .1) (none e)
+
+bit-of-requires : tie.Need-bit-of-requires
+bit-of-requires c κs = omega (arith, withdrawn-inside (fit c .0) (fit c .1) (start c .args .slot) (none c))
 
 sub-used : tie.Need-sub-used
-unfolding free
 sub-used c =
-    let k = c .before .before .before .before in
-    let u = k .before .before .before .before in
-    let s = u .before .before in
-    let at = s .before .before .args in
-    let w = now (at .shares) in
-    let ok = sym (s .sound .ensures .0) ∙ not-false (s .sound .result) (u .before .if1 .left) in
-    let few = u .if2 .left in
-    let some = k .if3 .left in
+    let e = c .before .before in
     let bit = c .before .bit-of .ensures in
-    omega (arith, bit-held (at .self) w (s .sound .ensures .1) ok (at .slot) (omega arith) (omega arith))
+    omega (arith, withdrawn-bit (fit e .0) (fit e .1) (start e .args .slot) (none e))
 
-returns-5 : tie.Need-returns-5
+with-slot-requires : tie.Need-with-slot-requires
+with-slot-requires c κs = let e = c .before .before in omega (arith, withdrawn-inside (fit e .0) (fit e .1) (start e .args .slot) (none e))
+
+returns-2 : tie.Need-returns-2
 unfolding free
-returns-5 c =
-    let k = c .before .before .before .before .before in
-    let u = k .before .before .before .before in
-    let s = u .before .before in
-    let at = s .before .before .args in
-    let w = now (at .shares) in
-    let ok = sym (s .sound .ensures .0) ∙ not-false (s .sound .result) (u .before .if1 .left) in
-    let few = u .if2 .left in
-    let some = k .if3 .left in
-    let idle = c .before .before .before .if4 .left in
-    let bit = c .before .before .bit-of .ensures in
-    let wide = s .sound .ensures .1 in
-    let there = bit-held (at .self) w wide ok (at .slot) (omega arith) (omega arith) in
-    rw (c .with-slot .ensures) (withdraw-done (at .self) w wide ok (at .slot) (omega arith) (omega arith) idle (at .self .used - c .before .before .bit-of .result) (omega arith))
+returns-2 c =
+    let e = c .before .before .before in
+    let at = start e .args in
+    let bit = c .before .before .bit-of in
+    let is = bit .ensures in
+    let there = withdrawn-bit (fit e .0) (fit e .1) (at .slot) (none e) in
+    rw (c .with-slot .ensures) (withdrawn-leaves (fit e .0) (fit e .1) (at .slot) (none e) (at .self .used - bit .result) (omega arith))
 
 pub withdraw-spec : {M : Type 1} → statement M
 withdraw-spec =
     tie.close
     (tie.spec
-    (λ c κs. search needs)  -- sound-requires
+    (λ c κs. search needs)  -- withdraw-number-requires
     (λ c κs. search needs)  -- refuse-requires
     returns
-    (λ c κs. search needs)  -- refuse-requires-2
-    returns-2
-    (λ c. search needs)  -- mul-task
-    (λ c. search needs)  -- array-copy-out-task
-    (λ c κs. search needs)  -- refuse-requires-3
-    returns-3
-    (λ c κs. search needs)  -- refuse-requires-4
-    returns-4
-    (λ c κs. search needs)  -- bit-of-requires
+    bit-of-requires
     sub-used
-    (λ c κs. search needs)  -- with-slot-requires
-    returns-5)
+    with-slot-requires
+    returns-2)

@@ -1,6 +1,7 @@
 -- `replan` does the three steps of a release, and each leaves the slices that the next one finds.
 -- What is held can be told, so the promise of one step is what the next asks.
 use mathlib.Core.Path.{_∙_}
+use Rattle.plan.proofs.Planned.{planned-long}
 use Rattle.planner.proofs.Releasing.{boundary-asked, give-asked, replanned}
 use borrow.Author.Needs.{needs}
 use Rattle.planner.proofs.release.replan.Statement.{statement}
@@ -8,24 +9,24 @@ use Rattle.planner.proofs.release.replan.Tie as tie
 
 with-boundary-requires : tie.Need-with-boundary-requires
 with-boundary-requires c κs =
-    let s = c .before .before .before .before .before .before in
-    let got = c .before .before .before .lower-first .ensures in
+    let s = c .before .before .before .before .before .before .before .before .before in
+    let got = c .before .before .before .before .lower-first .ensures in
     let asked = boundary-asked (s .pre) (got .0) in
-    (search needs, asked .0, asked .1, s .pre .ahead, s .pre .soon, asked .2)
+    (search needs, asked .0, asked .1, s .pre .ahead, asked .2)
 
 give-requires : tie.Need-give-requires
 give-requires c κs =
-    let s = c .before .before .before .before .before .before .before .before .before .before .before .before in
-    let got = c .before .before .before .before .before .before .before .before .before .lower-first .ensures in
-    let with = c .before .before .before .before .before .with-boundary .ensures in
+    let s = c .before .before .before .before .before .before .before .before .before .before .before .before .before .before .before .before in
+    let got = c .before .before .before .before .before .before .before .before .before .before .before .lower-first .ensures in
+    let with = c .before .before .before .before .before .before .with-boundary .ensures in
     let asked = give-asked (s .pre) (got .0) (with .0) in
-    (search needs, search needs, asked .0, asked .1, s .pre .inside, s .pre .slow, s .pre .soon)
+    (search needs, planned-long (asked .0), asked .0, asked .1, s .pre .inside, s .pre .slow, s .pre .soon)
 
 returns : tie.Need-returns
 returns c =
-    let s = c .before .before .before .before .before .before .before .before .before .before .before .before .before .before .before in
-    let got = c .before .before .before .before .before .before .before .before .before .before .before .before .lower-first .ensures in
-    let with = c .before .before .before .before .before .before .before .before .with-boundary .ensures in
+    let s = c .before .before .before .before .before .before .before .before .before .before .before .before .before .before .before .before .before .before .before in
+    let got = c .before .before .before .before .before .before .before .before .before .before .before .before .before .before .lower-first .ensures in
+    let with = c .before .before .before .before .before .before .before .before .before .with-boundary .ensures in
     let done = c .before .before .give .ensures in
     (replanned (s .pre) (got .0) (with .0) (done .0), done .1 ∙ with .1 ∙ got .1)
 
@@ -35,7 +36,7 @@ replan-spec =
     (tie.spec
     (λ c κs. search needs)  -- lower-first-requires
     with-boundary-requires
-    (λ c. search needs)  -- slice-aggregate-give
     give-requires
     (λ c. search needs)  -- same-length
+    (λ c. search needs)  -- same-length-2
     returns)

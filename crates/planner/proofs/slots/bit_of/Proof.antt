@@ -1,12 +1,7 @@
 -- `bit_of` is a 1 shifted by less than the width. Assumes nothing.
 use Rattle.planner.proofs.Used.{shifted-one}
-use mathlib.Core.Path.{_≡_, refl}
-use mathlib.Core.List.{_++_}
-use Prim.Native.Nat.{_+_, _-_, _*_, _<_, _≤_}
-use native.Mathlib.Omega.{arith}
+use Prim.Native.Nat.{_-_}
 use borrow.Author.Needs.{needs}
-use denote.Ref.{now}
-use lib.ListN.{length, take, drop, getD, set}
 use Rattle.planner.proofs.slots.bit_of.Statement.{statement}
 use Rattle.planner.proofs.slots.bit_of.Tie as tie
 use Rattle.planner.proofs.slots.bit_of.Reads as reads

@@ -1,13 +1,11 @@
 -- `load` adds up the rates: what is added so far and the rates of the tasks left make the whole. Assumes nothing.
 use Rattle.rules.specs.Station.{free, rates}
 use Rattle.planner.proofs.Used.{rates-next, rates-done}
-use mathlib.Core.Path.{_≡_, refl}
-use mathlib.Core.List.{_++_}
-use Prim.Native.Nat.{_+_, _-_, _*_, _<_, _≤_}
+use mathlib.Core.Path.{_≡_}
+use Prim.Native.Nat.{_+_, _-_, _*_, _≤_}
 use native.Mathlib.Omega.{arith}
 use borrow.Author.Needs.{needs}
-use denote.Ref.{now}
-use lib.ListN.{length, take, drop, getD, set}
+use lib.ListN.{drop}
 use Rattle.planner.proofs.slots.load.Statement.{statement}
 use Rattle.planner.proofs.slots.load.Tie as tie
 use Rattle.planner.proofs.slots.load.Reads as reads

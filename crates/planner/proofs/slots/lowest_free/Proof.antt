@@ -1,12 +1,8 @@
 -- `lowest_free` counts the zeros at the low end of the complement; the count is at most 64, so it fits. Assumes nothing.
 use lib.Count.{trailing-le}
-use mathlib.Core.Path.{_≡_, refl}
-use mathlib.Core.List.{_++_}
-use Prim.Native.Nat.{_+_, _-_, _*_, _<_, _≤_}
+use Prim.Native.Nat.{_-_}
 use native.Mathlib.Omega.{arith}
 use borrow.Author.Needs.{needs}
-use denote.Ref.{now}
-use lib.ListN.{length, take, drop, getD, set}
 use Rattle.planner.proofs.slots.lowest_free.Statement.{statement}
 use Rattle.planner.proofs.slots.lowest_free.Tie as tie
 use Rattle.planner.proofs.slots.lowest_free.Reads as reads

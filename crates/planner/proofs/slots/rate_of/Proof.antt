@@ -1,13 +1,10 @@
 -- `rate_of` is cost over period, rounded up; a cost of at most 1,000 times the period makes it at most 1,000.
 use Rattle.rules.specs.Station.{rateOf}
 use Rattle.rules.proofs.Floor.{at-scale, floor}
-use mathlib.Core.Path.{_≡_, refl}
-use mathlib.Core.List.{_++_}
-use Prim.Native.Nat.{_+_, _-_, _*_, _<_, _≤_}
+use mathlib.Core.Path.{refl}
+use Prim.Native.Nat.{_+_, _-_}
 use native.Mathlib.Omega.{arith}
 use borrow.Author.Needs.{needs}
-use denote.Ref.{now}
-use lib.ListN.{length, take, drop, getD, set}
 use Rattle.planner.proofs.slots.rate_of.Statement.{statement}
 use Rattle.planner.proofs.slots.rate_of.Tie as tie
 use Rattle.planner.proofs.slots.rate_of.Reads as reads

@@ -1,6 +1,6 @@
 -- `in_time` says whether a pending job's deadline is in range, above the clock and at most plan start plus period.
 -- The first two tests leave a flag, which the third joins.
-use mathlib.Core.Path.{_≡_, refl, ap, _∙_}
+use mathlib.Core.Path.{_≡_, refl, _∙_}
 use mathlib.Core.Logic.{⊎-elim}
 use mathlib.Core.Bool.{_&&_, and-assoc, and-true}
 use Prim.Native.Nat.{_+_, _<_, _≤_}
@@ -10,28 +10,27 @@ use borrow.Author.Needs.{needs}
 use lib.Dec.{leb, ltb}
 use Rattle.rules.specs.Station.{pending, lastTick}
 use Rattle.rules.specs.Sound.{every, inTimeTest}
+use Rattle.sound.specs.Lent.{taskWith}
 use Rattle.sound.proofs.Tests.{and-then, and-else}
 use Rattle.sound.proofs.task.in_time.Statement.{statement}
 use Rattle.sound.proofs.task.in_time.Tie as tie
 
-both : (c : tie.Joined2) → let at = c .before .before .args in c .if2 .if3 ≡ (leb (at .k .deadline) lastTick && ltb (at .clock) (at .k .deadline))
+both : (c : tie.Joined2) → let at = c .before .before .args in c .if2 .if3 ≡ (leb (at .deadline) lastTick && ltb (at .clock) (at .deadline))
 both c = ⊎-elim (λ w. and-then _ _ (le-leb _ _ (w .0 .taken)) (w .1)) (λ w. and-else _ _ (lt-leb _ _ (w .0 .left)) (w .1)) (c .if2 .came)
 
-test : (c : tie.Joined2) → let at = c .before .before .args in (c .if2 .if3 && leb (at .k .deadline) (at .start + at .k .period)) ≡ inTimeTest (at .clock) (at .start) (at .k)
+test : (c : tie.Joined2) → let at = c .before .before .args in (c .if2 .if3 && leb (at .deadline) (at .start + at .period)) ≡ inTimeTest (at .clock) (at .start) (taskWith (at .period) 0 0 (at .deadline))
 unfolding inTimeTest pending every
-test c = let job : 0 < c .before .before .args .k .deadline = omega arith in rw (both c, lt-ltb 0 _ job) (simp (and-assoc, and-true))
+test c = let job : 0 < c .before .before .args .deadline = omega arith in rw (both c, lt-ltb 0 _ job) (simp (and-assoc, and-true))
 
 returns : tie.Need-returns
 unfolding inTimeTest pending
-returns c = let none : c .before .args .k .deadline ≤ 0 = omega arith in rw (le-ltb 0 _ none)
+returns c = let none : c .before .args .deadline ≤ 0 = omega arith in rw (le-ltb 0 _ none)
 
 returns-2 : tie.Need-returns-2
-returns-2 c =
-    let at = c .before .before .before .before .args in
-    and-then _ _ (c .before .if3 .taken) (ap (λ p. leb (at .k .deadline) (at .start + p)) (c .wide .ensures .0)) ∙ test (c .before .before)
+returns-2 c = and-then _ _ (c .if3 .taken) refl ∙ test (c .before)
 
 returns-3 : tie.Need-returns-3
 returns-3 c = and-else _ _ (c .if3 .left) refl ∙ test (c .before)
 
 pub in-time-spec : {M : Type 1} → statement M
-in-time-spec = tie.close (tie.spec returns (λ c κs. search needs) (λ c. search needs) returns-2 returns-3)
+in-time-spec = tie.close (tie.spec returns (λ c. search needs) returns-2 returns-3)

@@ -8,10 +8,9 @@ use borrow.Author.Tests.{not-true, not-false}
 use borrow.Author.Needs.{needs}
 use denote.Ref.{now}
 use lib.ListN.{length}
-use Rattle.sound.specs.Due.{duesOf, planTest}
 use Rattle.sound.proofs.Tests.{not-both}
 use Rattle.sound.proofs.Dues.{dues-long, rates-long}
-use Rattle.sound.proofs.Clauses.{InRange, in-range, Asked, refused, whole}
+use Rattle.sound.proofs.Clauses.{InRange, in-range, Asked, refused, decided}
 use Rattle.sound.proofs.whole.sound.Statement.{statement}
 use Rattle.sound.proofs.whole.sound.Tie as tie
 
@@ -62,10 +61,7 @@ returns-3 c =
       scalars = sym (e .before .scalars .ensures) ∙ not-false _ (e .if2 .left);
       each = sym (got .0) ∙ all;
     } in (
-      c .plan-sound .ensures
-          ∙ ap (λ d. planTest (at .cores) (at .clock) (at .start) d (tasks .tasks-sound .last .1 .1 .1 .1 .1 .0) (at .count) (at .t7) (now (at .shares))) (got .1 all)
-          ∙ ap (λ d. planTest (at .cores) (at .clock) (at .start) (duesOf (at .start) (at .tasks)) d (at .count) (at .t7) (now (at .shares))) (got .2 all)
-          ∙ whole (at .cores) (at .clock) (at .start) (at .used) (at .tasks) (at .count) (at .t7) (now (at .shares)) slots a,
+      decided (at .cores) (at .clock) (at .start) (at .used) (at .tasks) (at .count) (at .t7) (now (at .shares)) slots a (got .1 all) (got .2 all) (c .plan-sound .ensures),
       omega (arith, entry .good),
     )
 
