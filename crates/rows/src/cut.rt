@@ -2,10 +2,11 @@ use crate::SLOTS;
 use crate::word::narrow;
 use crate::word::wide;
 ghost use mathlib.Core.Path.{_≡_};
-ghost use Prim.Native.Nat.{_+_, _*_, _≤_};
-ghost use lib.ListN.{length};
+ghost use mathlib.Core.List.{_++_};
+ghost use Prim.Native.Nat.{ℕ, _+_, _*_, _≤_, _<_};
+ghost use lib.ListN.{length, take, drop, getD};
 ghost use Rattle.rules.specs.Station.{slotCount};
-ghost use Rattle.rules.specs.Slices.{firstTo, firstPart, secondPart};
+ghost use Rattle.rules.specs.Slices.{less, firstTo, firstPart};
 ghost use Rattle.rows.specs.Asked.{Cut};
 
 // How many of the first e grains on the line the first part of a cut gets. The line of a row is no longer than 64 words of 32 bits.
@@ -44,18 +45,12 @@ pub fn cut_first(row: &mut [u32], part: u64, span: u64)
     }
 }
 
-// A row becomes the row of the rest of its slice.
-pub fn cut_rest(row: &mut [u32], part: u64, span: u64)
-    requires { ⌜ (length (now row) ≡ slotCount) × Cut part span ⌝ }
-    ensures { λ _. ⌜ now (row .exit) ≡ secondPart part span (now (row .entry)) ⌝ }
+// Of two rows that stand together, the first part of a cut and the whole row, the second becomes the rest: what the first part leaves of each share.
+pub fn cut_rest(two: &mut [u32])
+    requires { ⌜ (length (now two) ≡ 2 * slotCount) × ((i : ℕ) → i < slotCount → getD (now two) i 0 ≤ getD (now two) (slotCount + i) 0) ⌝ }
+    ensures { λ _. ⌜ now (two .exit) ≡ take slotCount (now (two .entry)) ++ less (λ i. getD (take slotCount (now (two .entry))) i 0) 0 (drop slotCount (now (two .entry))) ⌝ }
 {
-    let mut e: u64 = 0;
-    let mut was: u64 = 0;
     for i in 0..SLOTS {
-        let share = wide(row[i]);
-        let to = reached(was, e, share, part, span);
-        e += share;
-        row[i] = narrow(share - (to - was));
-        was = to;
+        two[SLOTS + i] = two[SLOTS + i] - two[i];
     }
 }

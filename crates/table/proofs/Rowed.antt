@@ -7,9 +7,11 @@ use native.Mathlib.Nat.{not-suc-le-zero, le-of-suc-le-suc}
 use native.Mathlib.Omega.{arith}
 use lib.Dec.{lit≤}
 use lib.ListN.{length, take, drop, getD, set, length-take, length-drop, length-append, take-append-drop}
-use lib.Seq.{take-at, drop-at, take-add, drop-drop, length-take-le, take-take, set-getD, getD-set-other}
+use lib.Seq.{take-at, drop-at, take-add, drop-drop, length-take-le, take-take, set-getD, getD-set-other, getD-take, getD-drop}
 use borrow.Rule.Slice.PartMut.{putMid, same-len-mid}
+use Rattle.rules.specs.Slices.{less}
 use Rattle.rules.specs.Words.{rowsOf, rowAt, flat, Rowed}
+use Rattle.rows.proofs.Lessened.{less-length}
 
 -- the words from n on of the first n + m
 pub drop-take : (n m : ℕ) (w : List ℕ) → n ≤ length w → drop n (take (n + m) w) ≡ take m (drop n w)
@@ -96,6 +98,23 @@ past-put N a m w ys h room is =
     let seam : putMid a m w ys ≡ (take a w ++ ys) ++ drop m (drop a w) = sym (append-assoc (take a w) ys (drop m (drop a w))) in
     rw (← far, ← (drop-drop (N - (a + m)) (a + m) (putMid a m w ys)), seam, drop-at (take a w ++ ys) (drop m (drop a w)) (a + m) whole, drop-drop m a w, drop-drop (N - (a + m)) (a + m) w)
 
+-- two rows that are lent together, row by row
+module _ (v : List ℕ) (room : 4096 ≤ length v) (k : ℕ) (h : suc k < 64) where
+  pub two-first : take 64 (take 128 (drop (64 * k) v)) ≡ rowAt k v
+  two-first = take-take 64 128 (drop (64 * k) v) (lit≤ tt) ∙ row-part k 64 v refl (omega arith)
+
+  pub two-second : drop 64 (take 128 (drop (64 * k) v)) ≡ rowAt (suc k) v
+  two-second =
+      let next : 64 * k + 64 ≡ 64 * suc k = omega arith in
+      drop-take 64 64 (drop (64 * k) v) (simp length-drop (omega arith)) ∙ rw (drop-drop 64 (64 * k) v, next) (row-part (suc k) 64 v refl h)
+
+  -- no word of the first is more than that of the second
+  pub two-below : (m : ℕ) → m ≡ 128 → ((i : ℕ) → getD (rowAt k v) i 0 ≤ getD (rowAt (suc k) v) i 0)
+      → (length (take m (drop (64 * k) v)) ≡ 128) × ((i : ℕ) → i < 64 → getD (take m (drop (64 * k) v)) i 0 ≤ getD (take m (drop (64 * k) v)) (64 + i) 0)
+  two-below m is below =
+      let part = take 128 (drop (64 * k) v) in
+      rw is (length-take-le 128 (drop (64 * k) v) (simp length-drop (omega arith)), λ i l. omega (arith, below i, sym (getD-take 64 part i 0 l) ∙ ap (λ r. getD r i 0) two-first, sym (getD-drop 64 part i 0) ∙ ap (λ r. getD r i 0) two-second))
+
 -- What a routine on a part makes of the table v, from what it promises of the part. m is the part's length as the borrow checker
 -- writes it, `e - a`.
 module _ (v : List ℕ) (room : 4096 ≤ length v) (k m : ℕ) (ys : List ℕ) (kept : length ys ≡ length (take m (drop (64 * k) v))) where
@@ -109,9 +128,12 @@ module _ (v : List ℕ) (room : 4096 ≤ length v) (k m : ℕ) (ys : List ℕ) (
       record { rows = rw (← made, is, rowsOf-put 64 k v ys h room (lent (omega arith) ∙ is)); past = past-put 4096 (64 * k) m v ys (omega arith) room (lent (omega arith)) }
 
   module _ (h : suc k < 64) (is : m ≡ 128) where
-    -- rows k and k + 1 were lent together, and came back both as x
+    -- rows k and k + 1 were lent together, and came back as x and y
+    apart : (x y : List ℕ) → length x ≡ 64 → length y ≡ 64 → ys ≡ x ++ y → Rowed v (set (set (rowsOf 64 v) k x) (suc k) y) (putMid (64 * k) m v ys)
+    apart x y lx ly got = record { rows = rw (got, is, rowsOf-put2 k v x y h room lx ly); past = past-put 4096 (64 * k) m v ys (omega arith) room (lent (omega arith)) }
+
     twice : (x : List ℕ) → length x ≡ 64 → ys ≡ x ++ x → Rowed v (set (set (rowsOf 64 v) k x) (suc k) x) (putMid (64 * k) m v ys)
-    twice x long got = record { rows = rw (got, is, rowsOf-put2 k v x x h room long long); past = past-put 4096 (64 * k) m v ys (omega arith) room (lent (omega arith)) }
+    twice x long got = apart x x long long got
 
     -- the second was copied over the first
     pub row-up : ys ≡ drop 64 (take m (drop (64 * k) v)) ++ drop 64 (take m (drop (64 * k) v)) → Rowed v (set (rowsOf 64 v) k (rowAt (suc k) v)) (putMid (64 * k) m v ys)
@@ -119,9 +141,7 @@ module _ (v : List ℕ) (room : 4096 ≤ length v) (k m : ℕ) (ys : List ℕ) (
     row-up got =
         let x = rowAt (suc k) v in
         let R = rowsOf 64 v in
-        let next : 64 * k + 64 ≡ 64 * suc k = omega arith in
-        let second : drop 64 (take 128 (drop (64 * k) v)) ≡ x =
-        drop-take 64 64 (drop (64 * k) v) (simp length-drop (omega arith)) ∙ rw (drop-drop 64 (64 * k) v, next) (row-part (suc k) 64 v refl h) in
+        let second : drop 64 (take 128 (drop (64 * k) v)) ≡ x = two-second v room k h in
         let stays : getD (set R k x) (suc k) [] ≡ x = getD-set-other R k (suc k) x [] (omega arith) in
         let r = twice x (length-row (suc k) v h room) (rw (is, second) at got) in
         record { rows = r .rows ∙ rw stays at (set-getD (set R k x) (suc k) []); past = r .past }
@@ -130,6 +150,20 @@ module _ (v : List ℕ) (room : 4096 ≤ length v) (k m : ℕ) (ys : List ℕ) (
     pub row-down : ys ≡ take 64 (take m (drop (64 * k) v)) ++ take 64 (take m (drop (64 * k) v)) → Rowed v (set (rowsOf 64 v) (suc k) (rowAt k v)) (putMid (64 * k) m v ys)
     unfolding rowAt
     row-down got =
-        let first : take 64 (take 128 (drop (64 * k) v)) ≡ rowAt k v = take-take 64 128 (drop (64 * k) v) (lit≤ tt) ∙ row-part k 64 v refl (omega arith) in
+        let first : take 64 (take 128 (drop (64 * k) v)) ≡ rowAt k v = two-first v room k h in
         let r = twice (rowAt k v) (length-row k v (omega arith) room) (rw (is, first) at got) in
+        record { rows = r .rows ∙ rw (set-getD (rowsOf 64 v) k []); past = r .past }
+
+    -- the first was taken from the second
+    pub row-less : ys ≡ take 64 (take m (drop (64 * k) v)) ++ less (λ i. getD (take 64 (take m (drop (64 * k) v))) i 0) 0 (drop 64 (take m (drop (64 * k) v)))
+        → Rowed v (set (rowsOf 64 v) (suc k) (less (λ i. getD (rowAt k v) i 0) 0 (rowAt (suc k) v))) (putMid (64 * k) m v ys)
+    unfolding rowAt
+    row-less got =
+        let x = rowAt k v in
+        let y = less (λ i. getD x i 0) 0 (rowAt (suc k) v) in
+        let first = two-first v room k h in
+        let second = two-second v room k h in
+        let made : ys ≡ x ++ y = rw (is, first, second) at got in
+        let long : length y ≡ 64 = less-length (λ i. getD x i 0) 0 (rowAt (suc k) v) ∙ length-row (suc k) v h room in
+        let r = apart x y (length-row k v (omega arith) room) long made in
         record { rows = r .rows ∙ rw (set-getD (rowsOf 64 v) k []); past = r .past }

@@ -1,12 +1,12 @@
 -- Rows that move down by one, the last first: a step of the move, what is not yet moved, and the row that stands twice at the end.
 -- Each is an equation of `take`, `drop` and `++` at one place of the rows.
-use mathlib.Core.Path.{_≡_, _∙_}
+use mathlib.Core.Path.{_≡_, ap, _∙_}
 use mathlib.Core.List.{List, [], _∷_, _++_}
 use Prim.Native.Nat.{ℕ, suc, _+_, _-_, _<_, _≤_}
 use native.Mathlib.Numerals.{add-one}
 use native.Mathlib.Omega.{arith}
 use lib.ListN.{length, take, drop, getD, set, take-append-drop, length-append, length-take, List·getD-append}
-use lib.Seq.{drop-cons, take-suc, set-at, append-snoc, length-take-le, getD-take, getD-at, getD-set-other}
+use lib.Seq.{drop-cons, take-suc, set-at, append-snoc, length-take-le, getD-take, getD-at, getD-set-same, getD-set-other}
 use Rattle.rules.specs.Words.{rowsOf, rowAt, Rowed, movedDown, cutRows}
 use Rattle.table.proofs.Rowed.{length-rowsOf, rowed-then}
 
@@ -69,19 +69,22 @@ module _ (n : ℕ) (rs : List (List ℕ)) where
           (append-snoc (take k rs) x (y ∷ below))
 
 -- Room is made, and then each part in its place: both find the row as it was.
-pub cut-then : {w v u t : List ℕ} (k n : ℕ) (f g : List ℕ → List ℕ) → k < n → n < 64
-    → Rowed w (movedDown k n (rowsOf 64 w)) v
-    → Rowed v (set (rowsOf 64 v) k (f (rowAt k v))) u
-    → Rowed u (set (rowsOf 64 u) (k + 1) (g (rowAt (k + 1) u))) t
-    → Rowed w (cutRows k n (f (rowAt k w)) (g (rowAt k w)) (rowsOf 64 w)) t
-unfolding rowAt
-cut-then {w} {v} {u} k n f g h room opened first rest =
-    let R = rowsOf 64 w in
-    let rows : length R ≡ 64 = length-rowsOf 64 w in
-    let here : rowAt k v ≡ rowAt k w = rw (opened .rows) (down-ahead n R (omega arith) k k (omega arith) (omega arith)) in
-    let next : rowAt (k + 1) u ≡ rowAt k w =
-    rw (first .rows, getD-set-other (rowsOf 64 v) k (k + 1) (f (rowAt k v)) [] (omega arith), opened .rows, add-one k) (down-next n R (omega arith) k h) in
-    record {
-      rows = rest .rows ∙ rw (next, first .rows, here, opened .rows, add-one k) (down-both n R (omega arith) k h (f (rowAt k w)) (g (rowAt k w)));
-      past = rowed-then (rowed-then opened first) rest .past;
-    }
+module _ {w v u : List ℕ} (k n : ℕ) (f : List ℕ → List ℕ) (h : k < n) (room : n < 64) (opened : Rowed w (movedDown k n (rowsOf 64 w)) v) (first : Rowed v (set (rowsOf 64 v) k (f (rowAt k v))) u) where
+  here : rowAt k v ≡ rowAt k w
+  unfolding rowAt
+  here = rw (opened .rows) (down-ahead n (rowsOf 64 w) (omega (arith, length-rowsOf 64 w)) k k (omega arith) (omega arith))
+
+  pub cut-first : rowAt k u ≡ f (rowAt k w)
+  unfolding rowAt
+  cut-first = rw (first .rows, getD-set-same (rowsOf 64 v) k (f (rowAt k v)) [] (omega (arith, length-rowsOf 64 v))) (ap f here)
+
+  pub cut-next : rowAt (k + 1) u ≡ rowAt k w
+  unfolding rowAt
+  cut-next = rw (first .rows, getD-set-other (rowsOf 64 v) k (k + 1) (f (rowAt k v)) [] (omega arith), opened .rows, add-one k) (down-next n (rowsOf 64 w) (omega (arith, length-rowsOf 64 w)) k h)
+
+  pub cut-then : {t : List ℕ} (y : List ℕ) → Rowed u (set (rowsOf 64 u) (k + 1) y) t → Rowed w (cutRows k n (f (rowAt k w)) y (rowsOf 64 w)) t
+  unfolding rowAt
+  cut-then y rest = record {
+    rows = rest .rows ∙ rw (first .rows, here, opened .rows, add-one k) (down-both n (rowsOf 64 w) (omega (arith, length-rowsOf 64 w)) k h (f (rowAt k w)) y);
+    past = rowed-then (rowed-then opened first) rest .past;
+  }

@@ -3,20 +3,20 @@
 use Prim.Native.Nat.{_-_}
 use native.Mathlib.Omega.{arith}
 use borrow.Author.Needs.{needs}
-use Rattle.rules.specs.Slices.{firstTo, firstPart}
+use Rattle.rules.specs.Slices.{firstPart}
 use Rattle.rows.proofs.Laying.{laying-more, laying-all}
 use Rattle.rows.proofs.Cutting.{Cutting, cutting-none, cut-turn}
 use Rattle.rows.proofs.cut.cut_first.Statement.{statement}
 use Rattle.rows.proofs.cut.cut_first.Tie as tie
 
 abbrev Inv-loop : tie.InvT-loop
-Inv-loop row₀ part span e₀ was₀ i₀ row e was i = Cutting part span (firstTo part span) row₀ e was i row
+Inv-loop row₀ part span e₀ was₀ i₀ row e was i = Cutting part span row₀ e was i row
 
 abbrev μ-loop : tie.MeasureT-loop
 μ-loop row₀ part span e₀ was₀ i₀ row e was i = 64 - i
 
 loop-holds : tie.Need-loop-holds Inv-loop μ-loop
-loop-holds c = cutting-none _ _ _ _ (omega arith)
+loop-holds c = cutting-none _ _ _ (omega arith)
 
 sub-narrow : tie.Need-sub-narrow Inv-loop μ-loop
 sub-narrow c =
