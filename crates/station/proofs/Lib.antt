@@ -1,10 +1,5 @@
-pub mod Fields
-pub mod Checked
 pub mod Stores
-pub mod Inverse
-pub mod Laid
-pub mod Going
 pub mod Stationed
-pub mod Numbers
+pub mod Lent
 pub mod Telling
 pub mod Promises

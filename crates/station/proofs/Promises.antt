@@ -19,9 +19,10 @@ use Rattle.planner.proofs.Promises.{sound-of, stays-sound, opens-sound}
 use Rattle.planner.specs.Held.{tableOf, plannerOf, isSoundIn, Left, unchanged, heldAs, called, openedBy, opening, blankPlanner}
 use Rattle.planner.specs.Holding.{told}
 use Rattle.planner.specs.declared.Planner.{Planner}
-use Rattle.station.specs.Area.{stateWords, resultWords, plannerIn, wordsFor, fitting, answered}
+use Rattle.words.specs.Area.{stateWords, plannerIn, wordsFor, fitting}
+use Rattle.station.specs.Result.{resultWords, answered}
 use Rattle.station.specs.Station.{Lent, lent, settled, lengthsFirst, leftIn, stationed, openedIn, holdingWords, toldWords, holderIn}
-use Rattle.station.proofs.Inverse.{comes-back, words-of, words-count}
+use Rattle.words.proofs.Inverse.{comes-back, words-of, words-count}
 use Rattle.station.proofs.Telling.{told-apart}
 use Rattle.station.proofs.Stationed.{unfit-unsound, tasks-there, settled-unsound, long-enough}
 

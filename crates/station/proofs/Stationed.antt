@@ -4,14 +4,13 @@ use mathlib.Core.List.{List, [], _∷_}
 use mathlib.Core.Path.{_≡_, refl, ap, sym, _∙_}
 use Prim.Native.Nat.{ℕ, zero, suc, _≤_, _<_}
 use native.Mathlib.Omega.{arith}
-use lib.ListN.{length, drop, getD, length-drop}
-use lib.Seq.{length-take-le}
+use lib.ListN.{length, drop, getD}
 use borrow.Author.Tests.{le-leb, lt-ltb, le-ltb}
 use Rattle.rules.proofs.Floor.{by-bool}
 use Rattle.rules.specs.Advance.{Holding, idleUntil, idle, holderOf}
 use Rattle.rules.specs.Calls.{Answer as Handed, Call, refusal, refused, openRefusals, done, holderNumber}
 use Rattle.rules.specs.Sound.{Sound}
-use Rattle.rules.specs.Station.{Table, rowCount, free, inUse, taskAt, rates}
+use Rattle.rules.specs.Station.{Table, free, inUse, taskAt, rates}
 use Rattle.rules.specs.declared.Task.{Task}
 use Rattle.sound.specs.Lent.{tableAt}
 use Rattle.planner.proofs.Called.{called-unsound}
@@ -25,10 +24,12 @@ use Rattle.planner.specs.declared.Holder.the-variants.{Held, IdleUntil, Idle, R
 use Rattle.planner.specs.declared.Holder.{Holder}
 use Rattle.planner.specs.declared.Next.{Next}
 use Rattle.planner.specs.declared.Planner.{Planner}
-use Rattle.station.specs.Area.{stateWords, resultWords, mostField, plannerIn, widest, fitting, answered}
+use Rattle.words.specs.Area.{stateWords, mostField, plannerIn, widest, fitting}
+use Rattle.station.specs.Result.{resultWords, answered}
 use Rattle.station.specs.Station.{Lent, lent, settled, lengthsFirst, leftIn, stationed, openedIn, holdingWords, toldWords, holderIn}
 use Rattle.station.specs.Put.{putBy, toldIn}
-use Rattle.station.proofs.Fields.{widest-most}
+use Rattle.words.proofs.Laid.{planner-wide}
+use Rattle.words.proofs.Fields.{widest-most}
 
 -- The fields of a sound table are small: a period is at most 60,000, a cost at most 60,000,000, a rate at most the load.
 rate-most : (ks : List Task) (i : ℕ) → getD ks i free .rate ≤ rates ks
@@ -62,10 +63,6 @@ unfit-unsound p w unfit =
     let yes′ = le-leb (widest (p .tasks)) mostField small in
     cc)
     (λ bad. bad)
-
-pub planner-wide : (s : List ℕ) → stateWords ≤ length s → length (plannerIn s .ends) ≡ rowCount
-unfolding plannerIn
-planner-wide s long = length-take-le 64 (drop 5 s) (omega (arith, length-drop 5 s))
 
 -- the areas' lengths
 module _ (state shares segments result : List ℕ) (then : Lent) where

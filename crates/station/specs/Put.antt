@@ -1,19 +1,16 @@
--- What is written for the planner's own answers, case by case, and what an advance leaves.
+-- What is written for the planner's own answers, case by case.
 use mathlib.Core.List.{List, [], _∷_, _++_}
-use mathlib.Core.Path.{_≡_}
 use Prim.Native.Nat.{ℕ}
-use lib.ListN.{length, drop}
-use Rattle.rules.specs.Station.{Table, slotCount, shareWords}
-use Rattle.rules.specs.Wrap.{segmentsTo}
-use Rattle.rules.specs.Advance.{reached, advanced}
-use Rattle.rules.specs.Words.{wordsOf, written}
-use Rattle.planner.specs.Held.{plannerOf}
+use lib.ListN.{drop}
+use Rattle.rules.specs.Station.{slotCount}
+use Rattle.rules.specs.Words.{written}
 use Rattle.planner.specs.declared.Planner.{Planner}
 use Rattle.planner.specs.declared.Answer.{Answer}
 use Rattle.planner.specs.declared.Answer.the-variants.{Done, Refused}
 use Rattle.planner.specs.declared.Holder.{Holder}
 use Rattle.planner.specs.declared.Holder.the-variants.{Held, IdleUntil, Idle, Refused as Refused′}
-use Rattle.station.specs.Area.{stateWords, resultWords, wordsFor}
+use Rattle.words.specs.Area.{stateWords, wordsFor}
+use Rattle.station.specs.Result.{resultWords}
 use Rattle.station.specs.Station.{Lent, lent}
 
 -- A call's answer: done, the planner's words and number, value and count are written; refused, the number, 0 and 0.
@@ -27,10 +24,3 @@ toldIn (Held slot until) state shares result = lent state shares [] (0 ∷ (slot
 toldIn (IdleUntil grain) state shares result = lent state shares [] (0 ∷ (slotCount ∷ (grain ∷ drop resultWords result))) 0
 toldIn Idle state shares result = lent state shares [] (0 ∷ (slotCount ∷ (0 ∷ drop resultWords result))) 0
 toldIn (Refused′ n) state shares result = lent state shares [] (n ∷ (0 ∷ (0 ∷ drop resultWords result))) n
-
--- An advance of the state area s, the shares w and the segment buffer b: the rules' table in the words lent, and n segments to the tick reached.
-pub record Advanced (t : Table) (tick : ℕ) (s w b : List ℕ) (n : ℕ) (s′ w′ b′ : List ℕ) : Type 0 where
-  pub state : s′ ≡ wordsFor (plannerOf (advanced t tick)) ++ drop stateWords s
-  pub shares : w′ ≡ wordsOf (advanced t tick) ++ drop shareWords w
-  pub segments : b′ ≡ written (segmentsTo t (reached tick (t .slices))) b
-  pub count : n ≡ length (segmentsTo t (reached tick (t .slices)))

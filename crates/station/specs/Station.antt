@@ -2,15 +2,15 @@
 use mathlib.Core.Bool.{cond}
 use mathlib.Core.List.{List, [], _++_}
 use Prim.Native.Nat.{ℕ, zero, suc}
-use lib.Dec.{leb, ltb}
+use lib.Dec.{ltb}
 use lib.ListN.{length, drop}
 use Rattle.rules.specs.Station.{slotCount}
 use Rattle.rules.specs.Advance.{Holding, held, idleUntil, idle}
 use Rattle.rules.specs.Calls.{Answer, Call, refusal}
 use Rattle.planner.specs.Held.{Left, blankPlanner, called, opening}
 use Rattle.planner.specs.Holding.{told}
-use Rattle.planner.specs.Reasons.{numberFor}
-use Rattle.station.specs.Area.{stateWords, resultWords, plannerIn, wordsFor, answered}
+use Rattle.words.specs.Area.{stateWords, plannerIn, wordsFor}
+use Rattle.station.specs.Result.{resultWords, answered}
 
 -- What a call leaves: the four areas lent, and the number that it answers.
 pub record Lent : Type 0 where
@@ -40,10 +40,6 @@ leftIn l state shares segments result = lengthsFirst state shares segments resul
 -- Declare, withdraw, release and advance: what the planner's call leaves, on the planner that the state area holds.
 unfoldable pub stationed : List ℕ → List ℕ → List ℕ → List ℕ → Call → Lent
 stationed state shares segments result call = leftIn (called (plannerIn state) shares segments call) state shares segments result
-
--- the number of the first reason that refuses a call on a state area and shares, or 0
-unfoldable pub numberIn : List ℕ → List ℕ → Call → ℕ
-numberIn state shares call = cond (leb stateWords (length state)) (numberFor (plannerIn state) shares call) 1
 
 -- Open: does not look at what the state area holds.
 unfoldable pub openedIn : List ℕ → List ℕ → List ℕ → ℕ → Lent

@@ -1,37 +1,29 @@
 // The planner for a station in C or Rust: six calls on areas of words that the station lends. Each answers a refusal's number, 0 where the
-// call is done, and writes number, value and count into the result area. The words are tested and changed where they lie.
-mod advance; // advance.rt: time goes on
-mod area; // area.rt: where a state area has its words
-mod check; // check.rt: whether a state area holds a sound table
-mod fresh; // fresh.rt: a state area as open leaves it
-mod number; // number.rt: the first reason that refuses a call
-mod release; // release.rt: a job is released
-mod slot; // slot.rt: a slot's task and its bit change
-mod tasks; // tasks.rt: the words of the tasks
+// call is done, and writes number, value and count into the result area. What a state area holds, and what a call stores there, is in `words`.
 mod write; // write.rt: an answer into a result area
 
-use crate::advance::put_advanced;
-use crate::area::CLOCK;
-use crate::area::CORES;
-use crate::area::COUNT;
-use crate::area::ENDS_FROM;
-use crate::area::START;
-use crate::area::STATE_WORDS;
-use crate::check::is_sound;
-use crate::fresh::put_opened;
-use crate::number::advance_number;
-use crate::number::declare_number;
-use crate::number::release_number;
-use crate::number::withdraw_number;
-use crate::release::put_released;
-use crate::slot::put_declared;
-use crate::slot::put_withdrawn;
 use crate::write::RESULT_WORDS;
 use crate::write::tell;
 use crate::write::tell_holder;
 use planner::look::holder_in;
 use planner::reason::open_reason;
 use table::zero::clear_table;
+use words::advance::put_advanced;
+use words::area::CLOCK;
+use words::area::CORES;
+use words::area::COUNT;
+use words::area::ENDS_FROM;
+use words::area::START;
+use words::area::STATE_WORDS;
+use words::check::is_sound;
+use words::fresh::put_opened;
+use words::number::advance_number;
+use words::number::declare_number;
+use words::number::release_number;
+use words::number::withdraw_number;
+use words::release::put_released;
+use words::slot::put_declared;
+use words::slot::put_withdrawn;
 ghost use mathlib.Core.Path.{_≡_};
 ghost use mathlib.Core.List.{[]};
 ghost use lib.ListN.{length};

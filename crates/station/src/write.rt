@@ -4,7 +4,7 @@ ghost use mathlib.Core.Path.{_≡_};
 ghost use mathlib.Core.List.{List, [], _∷_};
 ghost use Prim.Native.Nat.{ℕ, _≤_};
 ghost use lib.ListN.{length, drop};
-ghost use Rattle.station.specs.Area.{resultWords};
+ghost use Rattle.station.specs.Result.{resultWords};
 ghost use Rattle.station.specs.Put.{toldIn};
 ghost use Rattle.station.specs.Station.{lent};
 

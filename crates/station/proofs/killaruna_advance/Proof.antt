@@ -11,11 +11,13 @@ use Rattle.rules.specs.Advance.{advanced}
 use Rattle.planner.proofs.Called.{number-done}
 use Rattle.planner.proofs.Reasons.{advance-none, advance-number}
 use Rattle.planner.specs.Held.{tableOf, plannerOf}
-use Rattle.station.proofs.Going.{advanced-leaves}
+use Rattle.words.proofs.Going.{advanced-leaves}
 use Rattle.planner.specs.Reasons.{numberFor}
-use Rattle.station.specs.Area.{resultWords, plannerIn}
+use Rattle.station.specs.Result.{resultWords}
+use Rattle.words.specs.Area.{plannerIn}
 use Rattle.station.specs.Station.{stationed, leftIn}
-use Rattle.station.proofs.Numbers.{Holds, none-number, refused-lent, done-lent}
+use Rattle.words.proofs.Numbers.{Holds, none-number}
+use Rattle.station.proofs.Lent.{refused-lent, done-lent}
 use Rattle.station.proofs.Stationed.{short-result}
 use Rattle.station.proofs.killaruna_advance.Statement.{statement}
 use Rattle.station.proofs.killaruna_advance.Tie as tie

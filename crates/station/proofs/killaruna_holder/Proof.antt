@@ -8,10 +8,11 @@ use denote.Ref.{now}
 use Rattle.planner.proofs.First.{front}
 use Rattle.planner.proofs.Joint.{cores-range}
 use Rattle.planner.proofs.Looking.{told-now}
-use Rattle.station.specs.Area.{plannerIn}
+use Rattle.words.specs.Area.{plannerIn}
 use Rattle.station.specs.Station.{holderIn}
-use Rattle.station.proofs.Laid.{area-end}
-use Rattle.station.proofs.Numbers.{Holds, holds, holder-refused}
+use Rattle.words.proofs.Laid.{area-end}
+use Rattle.words.proofs.Numbers.{Holds, holds}
+use Rattle.station.proofs.Lent.{holder-refused}
 use Rattle.station.proofs.Stationed.{short-result, held-is}
 use Rattle.station.proofs.killaruna_holder.Statement.{statement}
 use Rattle.station.proofs.killaruna_holder.Tie as tie

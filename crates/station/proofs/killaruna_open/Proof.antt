@@ -10,7 +10,7 @@ use Rattle.rules.specs.Calls.{refused, openRefusals}
 use Rattle.planner.proofs.Opening.{open-room}
 use Rattle.planner.specs.Held.{blankPlanner}
 use Rattle.station.specs.Station.{openedIn, leftIn}
-use Rattle.station.proofs.Numbers.{open-refused-lent, open-done-lent}
+use Rattle.station.proofs.Lent.{open-refused-lent, open-done-lent}
 use Rattle.station.proofs.Stationed.{short-result, short-state}
 use Rattle.station.proofs.killaruna_open.Statement.{statement}
 use Rattle.station.proofs.killaruna_open.Tie as tie

@@ -13,9 +13,11 @@ use Rattle.planner.proofs.Called.{number-done}
 use Rattle.planner.proofs.Releasing.{released-asked, release-left}
 use Rattle.planner.specs.Held.{tableOf, plannerOf, leaves, answerOf}
 use Rattle.planner.specs.Reasons.{numberFor}
-use Rattle.station.specs.Area.{resultWords, plannerIn}
+use Rattle.station.specs.Result.{resultWords}
+use Rattle.words.specs.Area.{plannerIn}
 use Rattle.station.specs.Station.{stationed, leftIn}
-use Rattle.station.proofs.Numbers.{Holds, none-number, refused-lent, done-lent}
+use Rattle.words.proofs.Numbers.{Holds, none-number}
+use Rattle.station.proofs.Lent.{refused-lent, done-lent}
 use Rattle.station.proofs.Stationed.{short-result}
 use Rattle.station.proofs.killaruna_release.Statement.{statement}
 use Rattle.station.proofs.killaruna_release.Tie as tie

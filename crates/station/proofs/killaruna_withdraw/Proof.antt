@@ -11,9 +11,11 @@ use Rattle.rules.specs.Station.{free}
 use Rattle.planner.proofs.Withdrawn.{withdrawn-inside, withdrawn-bit, withdrawn-leaves}
 use Rattle.planner.specs.Held.{withSlot}
 use Rattle.planner.specs.Reasons.{numberFor}
-use Rattle.station.specs.Area.{resultWords, plannerIn}
+use Rattle.station.specs.Result.{resultWords}
+use Rattle.words.specs.Area.{plannerIn}
 use Rattle.station.specs.Station.{stationed, leftIn}
-use Rattle.station.proofs.Numbers.{Holds, none-number, refused-lent, done-lent}
+use Rattle.words.proofs.Numbers.{Holds, none-number}
+use Rattle.station.proofs.Lent.{refused-lent, done-lent}
 use Rattle.station.proofs.Stationed.{short-result}
 use Rattle.station.proofs.killaruna_withdraw.Statement.{statement}
 use Rattle.station.proofs.killaruna_withdraw.Tie as tie
