@@ -16,7 +16,7 @@ use Rattle.planner.specs.declared.Planner.{Planner}
 use Rattle.planner.specs.Held.{Agrees, tableOf, isSoundIn, heldAs, called, leaves, answerOf, withSlot}
 use Rattle.planner.specs.declared.Answer.the-variants.{Done}
 use Rattle.planner.specs.Reasons.{numberFor}
-use Rattle.planner.proofs.Used.{used-fits, used-set, flag-yes, flag-no, lowest-bit, all-used}
+use Rattle.steps.proofs.Used.{used-fits, used-set, flag-yes, flag-no, lowest-bit, all-used}
 use Rattle.planner.proofs.Called.{number-done}
 use Rattle.planner.proofs.Slotted.{used-there, slot-held, slots-held}
 use Rattle.planner.proofs.Reasons.{declare-number, declare-none}

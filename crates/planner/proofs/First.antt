@@ -19,7 +19,7 @@ use Rattle.wrap.specs.Asked.{Laid}
 use Rattle.wrap.specs.Shown.{shown}
 use Rattle.planner.specs.declared.Planner.{Planner}
 use Rattle.planner.specs.Held.{Agrees, tableOf}
-use Rattle.planner.specs.Front.{Front}
+use Rattle.steps.specs.Front.{Front}
 
 -- the first slice, from the first boundary and the first row
 abbrev pub frontOf : List ℕ → List ℕ → Slice

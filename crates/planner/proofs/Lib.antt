@@ -1,4 +1,3 @@
-pub mod Used
 pub mod Joint
 pub mod Called
 pub mod Slotted

@@ -20,7 +20,7 @@ use Rattle.wrap.specs.Found.{holdingOf}
 use Rattle.planner.specs.declared.Planner.{Planner}
 use Rattle.planner.specs.declared.Holder.the-variants.{Refused}
 use Rattle.planner.specs.Held.{Agrees, tableOf, isSoundIn}
-use Rattle.planner.specs.Front.{Front}
+use Rattle.steps.specs.Front.{Front}
 use Rattle.planner.specs.Holding.{toldBy, toldIf, told, heldFront, heldNow}
 use Rattle.planner.proofs.Called.{not-unsound}
 use Rattle.planner.proofs.First.{first}

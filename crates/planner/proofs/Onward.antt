@@ -18,7 +18,7 @@ use Rattle.table.proofs.Rowed.{rowsOf-all}
 use Rattle.planner.specs.declared.Planner.{Planner}
 use Rattle.planner.specs.declared.Answer.the-variants.{Done}
 use Rattle.planner.specs.Held.{Agrees, tableOf, plannerOf, leaves, answerOf, heldAs}
-use Rattle.planner.proofs.Used.{used-ended}
+use Rattle.steps.proofs.Used.{used-ended}
 use Rattle.planner.proofs.Called.{written-none}
 use Rattle.planner.proofs.First.{first}
 

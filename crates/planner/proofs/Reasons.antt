@@ -1,16 +1,14 @@
 -- The first reason of each call on a sound table, by the numbers that are held: the planner's word of slots, its rates, its boundaries and
 -- their number tell what the rules' table tells. And what it means that no reason holds, in plain facts.
 use mathlib.Core.Path.{_≡_, refl, ap, sym, _∙_}
-use mathlib.Core.Bool.{Bool, true, false, cond, not, _&&_, _||_, and-false, or-false, false≢true}
+use mathlib.Core.Bool.{Bool, true, false, cond, not, _&&_, _||_, and-false, false≢true}
 use mathlib.Core.Logic.{_⊎_, inl, inr}
 use mathlib.Core.List.{List, [], _∷_}
 use Prim.Native.Nat.{ℕ, zero, suc, _+_, _≤_, _<_}
-use native.Mathlib.Numerals.{add-one}
 use native.Mathlib.Omega.{arith}
 use lib.Count.{ones}
 use lib.Dec.{leb, ltb, eqb}
-use lib.ListN.{length, drop, getD, drop-of-length-le}
-use lib.Seq.{drop-cons}
+use lib.ListN.{length, getD}
 use borrow.Author.Tests.{lt-ltb, le-ltb, le-leb, lt-leb, eq-eqb, ne-eqb, ltb-false, eqb-false}
 use Rattle.rules.specs.Station.{Slice, grains, lastTick, longestPeriod, rowCount, slotCount, rateOf, rates, free, inUse, pending, taskAt}
 use Rattle.rules.specs.Slices.{isEnd}
@@ -22,8 +20,9 @@ use Rattle.sound.specs.Lent.{tableAt}
 use Rattle.plan.specs.Planned.{slicesIn, endsIn}
 use Rattle.planner.specs.declared.Planner.{Planner}
 use Rattle.planner.specs.Held.{Agrees, tableOf, isSoundIn}
-use Rattle.planner.specs.Reasons.{declareNumber, taskNumber, among, dueNumber, advanceNumber, numberFor}
-use Rattle.planner.proofs.Used.{all-used, used-all}
+use Rattle.steps.specs.Reasons.{declareNumber, taskNumber, among, dueNumber, advanceNumber}
+use Rattle.planner.specs.Reasons.{numberFor}
+use Rattle.steps.proofs.Used.{all-used, used-all}
 use Rattle.planner.proofs.Called.{not-unsound}
 use Rattle.planner.proofs.Slotted.{slots-held}
 
@@ -84,17 +83,6 @@ task-last period deadline rest z =
     let none = task-none period deadline z in
     let some : period ≡ 0 → ⊥ = omega arith in
     rw (ne-eqb period 0 some, le-ltb 0 deadline (omega arith))
-
--- d among the boundaries from k on
-pub among-more : (d k : ℕ) (es : List ℕ) (found : Bool) → k < length es → found || among d (drop k es) ≡ among d es
-    → (found || eqb d (getD es k 0)) || among d (drop (k + 1) es) ≡ among d es
-unfolding among
-among-more d k es true h e = e
-among-more d k es false h e = let next : among d (drop k es) ≡ eqb d (getD es k 0) || among d (drop (suc k) es) = rw (drop-cons es k 0 h) in rw add-one (sym next ∙ e)
-
-pub among-all : (d k : ℕ) (es : List ℕ) (found : Bool) → length es ≤ k → found || among d (drop k es) ≡ among d es → found ≡ among d es
-unfolding among
-among-all d k es found h e = sym (or-false found) ∙ (rw (drop-of-length-le es h) at e)
 
 -- among all boundaries of as many slices
 among-ends : (d n : ℕ) (ss : List Slice) → length ss ≡ n → among d (endsIn n ss) ≡ isEnd d ss

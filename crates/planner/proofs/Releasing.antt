@@ -2,7 +2,7 @@
 -- words that the steps leave are those of the released table.
 use mathlib.Core.Path.{_≡_, refl}
 use mathlib.Core.Bool.{true, false, not}
-use mathlib.Core.Logic.{_⊎_, inl, inr}
+use mathlib.Core.Logic.{inl, inr}
 use mathlib.Core.List.{List, [], _∷_, _++_}
 use Prim.Native.Nat.{ℕ, _+_, _-_, _≤_, _<_}
 use native.Mathlib.Nat.{not-suc-le-zero}
@@ -11,12 +11,12 @@ use lib.Dec.{leb, ltb}
 use lib.ListN.{length, drop, set, getD}
 use borrow.Author.Tests.{ltb-true, ltb-false, leb-false, not-false}
 use Rattle.rules.specs.declared.Task.{Task}
-use Rattle.rules.specs.Station.{Slice, grains, lastTick, longestPeriod, rowCount, shareWords, free, inUse, taskAt, withDeadline}
+use Rattle.rules.specs.Station.{Slice, lastTick, longestPeriod, rowCount, shareWords, free, inUse, taskAt, withDeadline}
 use Rattle.rules.specs.Slices.{isEnd, withEnd}
 use Rattle.rules.specs.Release.{lowered, given, deadlineOf, releasedSlices, released}
 use Rattle.rules.specs.Calls.{release, refusals, notInUse, jobPending, accepted, done}
 use Rattle.rules.specs.Sound.{Each}
-use Rattle.rules.specs.Words.{rowAt, rowsIn, wordsOf, Rowed}
+use Rattle.rules.specs.Words.{rowsIn, wordsOf, Rowed}
 use Rattle.rules.proofs.Floor.{by-bool}
 use Rattle.rules.proofs.Tasks.{lawful-rate, none-pending}
 use Rattle.rules.proofs.Slices.{lowered-ends}
@@ -24,14 +24,14 @@ use Rattle.rules.proofs.Steps.{refused-none, or-none}
 use Rattle.rules.proofs.Kept.{first-ahead}
 use Rattle.table.proofs.Rowed.{rowed-is}
 use Rattle.sound.specs.Lent.{usedOf, tableAt}
-use Rattle.plan.specs.Planned.{Planned, Ready, slicesIn, endsIn, beginOf}
-use Rattle.plan.proofs.Planned.{ready-at, planned-slices}
+use Rattle.plan.specs.Planned.{Planned, slicesIn, endsIn}
 use Rattle.plan.proofs.Ready.{ready, ready-lowered, ready-with}
 use Rattle.planner.specs.declared.Planner.{Planner}
 use Rattle.planner.specs.Held.{Agrees, tableOf, plannerOf, isSoundIn, Left, leaves, heldAs}
 use Rattle.planner.specs.Reasons.{numberFor}
-use Rattle.planner.specs.Releasing.{Lowers, Replans, Releases}
-use Rattle.planner.proofs.Used.{used-set}
+use Rattle.steps.specs.Asked.{Lowers, Replans}
+use Rattle.planner.specs.Releasing.{Releases}
+use Rattle.steps.proofs.Used.{used-set}
 use Rattle.planner.proofs.Called.{written-none}
 use Rattle.planner.proofs.Slotted.{used-there}
 
@@ -43,41 +43,6 @@ first-end : (c lo : ℕ) (ss : List Slice) → Each (λ l s. c < s .end) lo ss �
 unfolding endsIn
 first-end c lo [] e h = absurd (not-suc-le-zero h)
 first-end c lo (s ∷ ss) e h = e .0
-
--- what lowering row 0 asks
-pub record First (ends words : List ℕ) (start clock : ℕ) : Type 0 where
-  pub rises : start < getD ends 0 0
-  pub soon : getD ends 0 0 ≤ start + longestPeriod
-  pub begun : start ≤ clock
-  pub ahead : clock < getD ends 0 0
-  pub small : (i : ℕ) → getD (rowAt 0 words) i 0 ≤ grains (getD ends 0 0 - start)
-
-pub first : {ends words : List ℕ} {count start clock : ℕ} → Lowers ends count words start clock → 0 < count → First ends words start clock
-unfolding beginOf rowAt
-first q some = let at = ready-at (q .planned) (q .ready) 0 some in record { rises = at .rises; soon = at .soon; begun = q .begun; ahead = q .ahead some; small = at .small }
-
--- the three steps, one after the other: what the second asks, what the third asks, and what all leave
-module _ {ends words : List ℕ} {count start clock slot rate d : ℕ} (q : Replans ends count words start clock slot rate d) {v : List ℕ}
-    (got : Planned (lowered start clock (slicesIn ends count words)) ends count v) where
-  low : slicesIn ends count v ≡ lowered start clock (slicesIn ends count words)
-  low = planned-slices got (q .ready .few)
-
-  pub boundary-asked : Planned (slicesIn ends count v) ends count v × Ready clock (slicesIn ends count v) × ((isEnd d (slicesIn ends count v) ≡ true) ⊎ (count < rowCount))
-  boundary-asked = rw low (got, q .ready, q .room)
-
-  module _ {bounds u : List ℕ} {n : ℕ} (with : Planned (withEnd d clock (slicesIn ends count v)) bounds n u) where
-    parted : Planned (withEnd d clock (lowered start clock (slicesIn ends count words))) bounds n u
-    parted = rw low at with
-
-    cut : slicesIn bounds n u ≡ withEnd d clock (lowered start clock (slicesIn ends count words))
-    cut = planned-slices parted (q .parted .few)
-
-    pub give-asked : Planned (slicesIn bounds n u) bounds n u × Ready clock (slicesIn bounds n u)
-    give-asked = rw cut (parted, q .parted)
-
-    pub replanned : {x : List ℕ} → Planned (given slot rate d clock (slicesIn bounds n u)) bounds n x
-        → Planned (given slot rate d clock (withEnd d clock (lowered start clock (slicesIn ends count words)))) bounds n x
-    replanned done′ = rw cut at done′
 
 -- the planner after a release
 abbrev pub moved : Planner → ℕ → Task → ℕ → ℕ → List ℕ → Planner

@@ -14,7 +14,7 @@ use Rattle.sound.specs.Lent.{flag, usedOf, tableAt}
 use Rattle.plan.specs.Planned.{slicesIn, endsIn}
 use Rattle.planner.specs.declared.Planner.{Planner}
 use Rattle.planner.specs.Held.{Agrees, tableOf, plannerOf, Left, heldAs, withSlot}
-use Rattle.planner.proofs.Used.{used-set, flag-yes, flag-no}
+use Rattle.steps.proofs.Used.{used-set, flag-yes, flag-no}
 use Rattle.planner.proofs.Joint.{same-words}
 use Rattle.planner.proofs.Called.{written-none}
 

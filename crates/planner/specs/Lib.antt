@@ -2,4 +2,3 @@ pub mod Held
 pub mod Holding
 pub mod Releasing
 pub mod Reasons
-pub mod Front

@@ -1,47 +1,21 @@
 use crate::Answer;
 use crate::Next;
 use crate::Planner;
-use crate::reason::advance_reason;
 use plan::boundary::drop_boundary;
 use plan::jobs::end_jobs;
-use rows::SLOTS;
 use rows::word::smaller;
-use sound::GRAINS;
-use wrap::segments::segments;
+use steps::reason::advance_reason;
+use steps::show::show;
 ghost use mathlib.Core.Path.{_≡_};
 ghost use mathlib.Core.List.{List, _++_};
 ghost use Prim.Native.Nat.{ℕ, _-_, _<_, _≤_};
-ghost use lib.ListN.{length, take, drop, getD};
-ghost use Rattle.rules.specs.Station.{grains, slotCount, rowCount, shareWords};
+ghost use lib.ListN.{length, drop, getD};
+ghost use Rattle.rules.specs.Station.{rowCount, shareWords};
 ghost use Rattle.rules.specs.Advance.{atBoundary};
 ghost use Rattle.rules.specs.Calls.{segmentWords, accepted, advance};
-ghost use Rattle.rules.specs.Words.{wordsOf, written};
-ghost use Rattle.wrap.specs.Shown.{shown};
+ghost use Rattle.rules.specs.Words.{wordsOf};
 ghost use Rattle.planner.specs.Held.{Agrees, tableOf, plannerOf, leaves, heldAs, called};
-ghost use Rattle.planner.specs.Front.{Front};
 ghost use Rattle.planner.specs.Reasons.{numberFor};
-
-// "320 words": a segment buffer has room for 80 segments of four words.
-pub const SEGMENT_WORDS: usize = 320;
-
-// The segments from the clock to a tick that slice 0 reaches, written to the buffer. Hands back their count.
-pub fn show(shares: &[u32], start: u64, clock: u64, end: u64, to: u64, buffer: &mut [u64]) -> u64
-    requires { ⌜ Front start clock end (now shares) × (clock ≤ to) × (to ≤ end) × (segmentWords ≤ length (now buffer)) ⌝ }
-    ensures { λ r. ⌜ (r ≡ length (shown (grains start) (grains (clock - start)) (grains (to - start)) (grains (end - start)) (take slotCount (now (shares .entry))))) × (now (buffer .exit) ≡ written (shown (grains start) (grains (clock - start)) (grains (to - start)) (grains (end - start)) (take slotCount (now (shares .entry)))) (now (buffer .entry))) ⌝ }
-{
-    let slice = GRAINS * (end - start);
-    let from = GRAINS * (clock - start);
-    let until = GRAINS * (to - start);
-    let n = segments(
-        &shares[0..SLOTS],
-        slice,
-        GRAINS * start,
-        from,
-        until,
-        buffer,
-    );
-    n as u64
-}
 
 impl Planner {
     // "At a boundary the jobs with that deadline end, row 0 is dropped .. and the plan start is the boundary".

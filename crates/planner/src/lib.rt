@@ -2,9 +2,7 @@
 pub mod advance; // advance.rt: advance
 pub mod look; // look.rt: holder
 pub mod open; // open.rt: a planner before any open, and open
-pub mod reason; // reason.rt: the first reason to refuse a call
 pub mod release; // release.rt: release
-pub mod slots; // slots.rt: the word of slots in use, rates
 pub mod tasks; // tasks.rt: declare and withdraw
 
 use rules::Task;

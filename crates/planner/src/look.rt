@@ -9,7 +9,7 @@ ghost use mathlib.Core.Bool.{cond};
 ghost use Prim.Native.Nat.{_<_, _≤_};
 ghost use lib.Dec.{leb};
 ghost use Rattle.rules.specs.Station.{mostCores};
-ghost use Rattle.planner.specs.Front.{Front};
+ghost use Rattle.steps.specs.Front.{Front};
 ghost use Rattle.planner.specs.Holding.{toldBy, toldIf, told, heldFront, heldNow};
 
 // Who holds a core, where a job is pending: the slot, or nobody until slice 0 ends.

@@ -1,8 +1,8 @@
 use crate::Answer;
 use crate::Next;
 use crate::Planner;
-use crate::reason::open_reason;
 use rules::Task;
+use steps::reason::open_reason;
 use table::zero::clear_table;
 ghost use mathlib.Core.Path.{_≡_};
 ghost use mathlib.Core.List.{[]};

@@ -1,63 +1,21 @@
 use crate::Answer;
 use crate::Next;
 use crate::Planner;
-use crate::reason::due_reason;
-use crate::reason::task_reason;
-use plan::boundary::with_boundary;
-use plan::give::give;
 use rows::word::wide;
 use rules::Task;
-use sound::GRAINS;
-use table::row::row_lower;
+use steps::reason::due_reason;
+use steps::reason::task_reason;
+use steps::replan::replan;
 ghost use mathlib.Core.Path.{_≡_};
 ghost use mathlib.Core.List.{[], _++_};
 ghost use lib.ListN.{length, drop};
 ghost use Rattle.rules.specs.Station.{rowCount, shareWords};
-ghost use Rattle.rules.specs.Slices.{withEnd};
-ghost use Rattle.rules.specs.Release.{lowered, given, released};
+ghost use Rattle.rules.specs.Release.{released};
 ghost use Rattle.rules.specs.Calls.{release};
 ghost use Rattle.rules.specs.Words.{wordsOf};
-ghost use Rattle.plan.specs.Planned.{Planned, slicesIn};
 ghost use Rattle.planner.specs.Held.{tableOf, plannerOf, leaves, called};
 ghost use Rattle.planner.specs.Reasons.{numberFor};
-ghost use Rattle.planner.specs.Releasing.{Lowers, Replans, Releases};
-
-// "1. Each share of slice 0 is lowered by what that task has run since the plan start".
-fn lower_first(shares: &mut [u32], ends: &[u64], count: usize, start: u64, clock: u64)
-    requires { ⌜ Lowers (now ends) count (now shares) start clock ⌝ }
-    ensures { λ _. ⌜ Planned (lowered start clock (slicesIn (now (ends .entry)) count (now (shares .entry)))) (now (ends .entry)) count (now (shares .exit)) × (drop shareWords (now (shares .exit)) ≡ drop shareWords (now (shares .entry))) ⌝ }
-{
-    if count == 0 {
-        return;
-    }
-    row_lower(
-        shares,
-        0,
-        GRAINS * (ends[0] - start),
-        GRAINS * (clock - start),
-    );
-}
-
-// The three steps of a release at the clock: slice 0 lowered, a boundary at d, and the new job's shares. Hands back how many boundaries
-// there are then.
-pub fn replan(
-    shares: &mut [u32],
-    ends: &mut [u64],
-    count: usize,
-    start: u64,
-    clock: u64,
-    slot: usize,
-    rate: u64,
-    d: u64,
-) -> usize
-    requires { ⌜ Replans (now ends) count (now shares) start clock slot rate d ⌝ }
-    ensures { λ r. ⌜ Planned (given slot rate d clock (withEnd d clock (lowered start clock (slicesIn (now (ends .entry)) count (now (shares .entry)))))) (now (ends .exit)) r (now (shares .exit)) × (drop shareWords (now (shares .exit)) ≡ drop shareWords (now (shares .entry))) ⌝ }
-{
-    lower_first(shares, ends, count, start, clock);
-    let n = with_boundary(shares, ends, count, d, clock);
-    give(shares, ends, n, slot, rate, d, clock);
-    n
-}
+ghost use Rattle.planner.specs.Releasing.{Releases};
 
 impl Planner {
     // The state and the words after a release into a slot, whose job is due at d.

@@ -6,7 +6,7 @@ use crate::write::RESULT_WORDS;
 use crate::write::tell;
 use crate::write::tell_holder;
 use planner::look::holder_in;
-use planner::reason::open_reason;
+use steps::reason::open_reason;
 use table::zero::clear_table;
 use words::advance::put_advanced;
 use words::area::CLOCK;

@@ -7,7 +7,7 @@ use crate::area::START;
 use crate::area::STATE_WORDS;
 use crate::area::TASKS_FROM;
 use crate::tasks::put_deadline;
-use planner::release::replan;
+use steps::replan::replan;
 ghost use mathlib.Core.Path.{_≡_};
 ghost use mathlib.Core.List.{_++_};
 ghost use Prim.Native.Nat.{_+_, _≤_};

@@ -6,10 +6,9 @@ use borrow.Author.Needs.{needs}
 use denote.Ref.{now}
 use borrow.Author.Tests.{not-true, not-false}
 use Rattle.planner.specs.Held.{Agrees, isSoundIn}
-use Rattle.planner.proofs.Joint.{agrees}
+use Rattle.planner.proofs.Joint.{agrees, cores-range}
 use Rattle.planner.proofs.Called.{number-unsound}
 use Rattle.rules.specs.Calls.{declare}
-use Rattle.planner.proofs.Joint.{cores-range}
 use Rattle.planner.proofs.Reasons.{declare-number}
 use Rattle.planner.proofs.Planner.declare_number.Statement.{statement}
 use Rattle.planner.proofs.Planner.declare_number.Tie as tie

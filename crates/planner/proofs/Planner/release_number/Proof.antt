@@ -6,12 +6,11 @@ use borrow.Author.Needs.{needs}
 use denote.Ref.{now}
 use borrow.Author.Tests.{not-true, not-false}
 use Rattle.planner.specs.Held.{Agrees, isSoundIn}
-use Rattle.planner.proofs.Joint.{agrees}
+use Rattle.planner.proofs.Joint.{agrees, clock-range}
 use Rattle.planner.proofs.Called.{number-unsound}
 use native.Mathlib.Omega.{arith}
 use Rattle.rules.specs.Station.{free}
 use Rattle.rules.specs.Calls.{release}
-use Rattle.planner.proofs.Joint.{clock-range}
 use Rattle.planner.proofs.Reasons.{release-past, release-first, release-number}
 use Rattle.planner.proofs.Planner.release_number.Statement.{statement}
 use Rattle.planner.proofs.Planner.release_number.Tie as tie

@@ -6,7 +6,7 @@ use borrow.Author.Needs.{needs}
 use denote.Ref.{now}
 use lib.ListN.{drop}
 use Rattle.rules.specs.Station.{rates}
-use Rattle.planner.proofs.Used.{rates-next, rates-done}
+use Rattle.steps.proofs.Used.{rates-next, rates-done}
 use Rattle.words.specs.Area.{tasksIn}
 use Rattle.words.proofs.Fields.{tasks-length, fields-at}
 use Rattle.words.proofs.tasks.load.Statement.{statement}
