@@ -2,7 +2,10 @@
 // It reads, hands what it read to `script`, and writes what that printed; all that can be said of the answers is said there.
 use libc::STDIN_FILENO;
 use libc::STDOUT_FILENO;
+use lines::LINE_BYTES;
 use planner::Planner;
+use rules::SEGMENT_WORDS;
+use rules::SHARE_WORDS;
 use script::feed_lines;
 use script::finish;
 ghost use Prim.Native.Nat.{suc, _≤_};
@@ -30,7 +33,8 @@ fn answer_piece(
     piece: &[u8],
     out: &mut [u8],
 ) -> Running
-    requires { ⌜ (segmentWords ≤ length (now segments)) × (lineBytes ≤ length (now line)) × (len ≤ suc lineBytes) × (answerBytes ≤ length (now out)) ⌝ }
+    requires { ⌜ (segmentWords ≤ length (now segments)) × (lineBytes ≤ length (now line))
+        × (len ≤ suc lineBytes) × (answerBytes ≤ length (now out)) ⌝ }
     ensures { λ r. ⌜ r .len ≤ suc lineBytes ⌝ }
 {
     let mut planner = p;
@@ -63,7 +67,8 @@ fn answer_read(
     input: &mut [u8],
     out: &mut [u8],
 ) -> Running
-    requires { ⌜ (segmentWords ≤ length (now segments)) × (lineBytes ≤ length (now line)) × (len ≤ suc lineBytes) × (answerBytes ≤ length (now out)) ⌝ }
+    requires { ⌜ (segmentWords ≤ length (now segments)) × (lineBytes ≤ length (now line))
+        × (len ≤ suc lineBytes) × (answerBytes ≤ length (now out)) ⌝ }
     ensures { λ r. ⌜ r .len ≤ suc lineBytes ⌝ }
 {
     let got = libc::read(STDIN_FILENO, input);
@@ -88,7 +93,8 @@ fn answer_all(
     input: &mut [u8],
     out: &mut [u8],
 )
-    requires { ⌜ (segmentWords ≤ length (now segments)) × (lineBytes ≤ length (now line)) × (answerBytes ≤ length (now out)) ⌝ }
+    requires { ⌜ (segmentWords ≤ length (now segments)) × (lineBytes ≤ length (now line))
+        × (answerBytes ≤ length (now out)) ⌝ }
 {
     let mut state = Running {
         planner: Planner::blank(),
@@ -110,9 +116,9 @@ fn answer_all(
 }
 
 fn main() {
-    let mut shares = [0u32; 4096];
-    let mut segments = [0u64; 320];
-    let mut line = [0u8; 64];
+    let mut shares = [0u32; SHARE_WORDS];
+    let mut segments = [0u64; SEGMENT_WORDS];
+    let mut line = [0u8; LINE_BYTES];
     let mut input = [0u8; 65536];
     let mut out = [0u8; 65536];
     answer_all(&mut shares, &mut segments, &mut line, &mut input, &mut out);

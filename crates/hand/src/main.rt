@@ -1,10 +1,13 @@
 // The part of document 01's 'Checked by hand' that is not proved as an example, and holder's three answers, run on the planner.
 // A line for each answer: `OK value count` or `NO number`; for holder `HELD slot until`, `IDLE until`, `IDLE` or `NO number`.
+use calls::Answer;
 use libc::STDOUT_FILENO;
-use planner::Answer;
-use planner::Holder;
 use planner::Next;
 use planner::Planner;
+use rules::LAST_TICK;
+use rules::SEGMENT_WORDS;
+use rules::SHARE_WORDS;
+use wrap::look::Holder;
 
 fn number(n: u64) {
     io::write_all(STDOUT_FILENO, b" ");
@@ -74,26 +77,26 @@ fn opened(shares: &mut [u32], cores: u64) -> Planner {
 // release of period 1 one tick earlier is accepted."
 fn last_tick() {
     heading(b"the last tick");
-    let mut shares = [0u32; 4096];
-    let mut segments = [0u64; 320];
+    let mut shares = [0u32; SHARE_WORDS];
+    let mut segments = [0u64; SEGMENT_WORDS];
     let p = told(opened(&mut shares, 1).declare(&shares, 1, 1));
-    let q = told(p.advance(&mut shares, 1099511627776, &mut segments));
-    let r = told(q.advance(&mut shares, 1099511627777, &mut segments));
+    let q = told(p.advance(&mut shares, LAST_TICK, &mut segments));
+    let r = told(q.advance(&mut shares, LAST_TICK + 1, &mut segments));
     told(r.release(&mut shares, 0));
 }
 
 fn one_tick_earlier() {
-    let mut shares = [0u32; 4096];
-    let mut segments = [0u64; 320];
+    let mut shares = [0u32; SHARE_WORDS];
+    let mut segments = [0u64; SEGMENT_WORDS];
     let p = told(opened(&mut shares, 1).declare(&shares, 1, 1));
-    let q = told(p.advance(&mut shares, 1099511627775, &mut segments));
+    let q = told(p.advance(&mut shares, LAST_TICK - 1, &mut segments));
     told(q.release(&mut shares, 0));
 }
 
 // "The 64th declare is accepted if rates allow, the 65th is refused 5."
 fn full_board() {
     heading(b"a full board");
-    let mut shares = [0u32; 4096];
+    let mut shares = [0u32; SHARE_WORDS];
     let mut p = opened(&mut shares, 1);
     let mut declared: usize = 0;
     while declared < 65 {
@@ -105,9 +108,9 @@ fn full_board() {
 // "320 words pass, 319 are refused 12."
 fn buffers() {
     heading(b"320 and 319 words");
-    let mut shares = [0u32; 4096];
-    let mut enough = [0u64; 320];
-    let mut short = [0u64; 319];
+    let mut shares = [0u32; SHARE_WORDS];
+    let mut enough = [0u64; SEGMENT_WORDS];
+    let mut short = [0u64; SEGMENT_WORDS - 1];
     let p = opened(&mut shares, 1);
     let q = told(p.advance(&mut shares, 1, &mut enough));
     told(q.advance(&mut shares, 2, &mut short));
@@ -130,8 +133,8 @@ fn each_core(p: Planner, shares: &[u32]) {
 // Holder on P6, with a core to spare: idle with nothing pending, held and idle at both clocks, and no such core.
 fn holders() {
     heading(b"holder");
-    let mut shares = [0u32; 4096];
-    let mut segments = [0u64; 320];
+    let mut shares = [0u32; SHARE_WORDS];
+    let mut segments = [0u64; SEGMENT_WORDS];
     let p = opened(&mut shares, 3);
     tell(p.holder(&shares, 0));
     let d = told(declared(p, &shares).release(&mut shares, 0));
@@ -146,8 +149,8 @@ fn holders() {
 // 4,095, 4,096 and 5,000 words of shares lent, and a planner that was never opened.
 fn lengths() {
     heading(b"words lent");
-    let mut short = [0u32; 4095];
-    let mut table = [0u32; 4096];
+    let mut short = [0u32; SHARE_WORDS - 1];
+    let mut table = [0u32; SHARE_WORDS];
     let mut more = [7u32; 5000];
     told(Planner::blank().declare(&table, 1, 1));
     told(Planner::blank().open(&mut short, 1));

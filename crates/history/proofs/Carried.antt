@@ -3,11 +3,11 @@
 use mathlib.Core.Path.{_≡_, refl, ap, sym, _∙_}
 use mathlib.Core.Bool.{true}
 use mathlib.Core.List.{List, [], _∷_, _++_, List·Memᴰ, List·Memᴰ·head, List·Memᴰ·tail}
-use Prim.Native.Nat.{ℕ, _≤_, _+_, _-_, _*_}
+use Prim.Native.Nat.{ℕ, _*_}
 use native.Mathlib.Omega.{arith}
 use lib.ListN.{length, drop, length-append, length-drop}
 use lib.Seq.{drop-at}
-use Rattle.rules.specs.Station.{Table, rowCount, shareWords}
+use Rattle.rules.specs.Station.{Table, shareWords}
 use Rattle.rules.specs.Sound.{Sound}
 use Rattle.rules.specs.Wrap.{Segment}
 use Rattle.rules.specs.Calls.{Call, declare, withdraw, release, advance, Outcome, refusal, refused, refusals, done, accepted, step}
@@ -15,18 +15,16 @@ use Rattle.rules.specs.History.{after, outcomes, recordOf, stamp, stamped}
 use Rattle.rules.specs.Words.{wordsOf, segmentsFlat, written}
 use Rattle.rules.proofs.Steps.{decided-cases}
 use Rattle.rules.proofs.Kept.{step-sound, never-one}
-use Rattle.plan.specs.Planned.{endsIn}
-use Rattle.plan.proofs.Padded.{ends-padded, padded-length}
-use Rattle.sound.specs.Lent.{tableAt}
-use Rattle.planner.specs.declared.Planner.{Planner}
-use Rattle.planner.specs.Held.{tableOf, plannerOf, isSoundIn, Left, heldAs, called, Agrees}
-use Rattle.planner.proofs.Joint.{agrees, same-planner, same-words}
-use Rattle.planner.proofs.Round.{same-table, words-length, still-sound}
-use Rattle.planner.proofs.Promises.{sound-of}
+use Rattle.rules.specs.Held.{Planner, tableOf, tableAt, plannerOf, isSoundIn, listWords}
+use Rattle.rules.proofs.Held.{planner-length}
+use Rattle.calls.specs.Called.{Left, heldAs, called, Agrees}
+use Rattle.calls.proofs.Joint.{agrees, same-planner, same-words}
+use Rattle.calls.proofs.Round.{same-table, words-length, still-sound}
+use Rattle.calls.proofs.Promises.{sound-of}
 use Rattle.history.specs.Carried.{Made, callOf, bufferOf, callsOf, leftBy, carried, lastPlanner, lastWords, answersOf, buffersOf, answersIn, buffersIn, segmentsIn, recordIn, stampedIn}
 use Rattle.history.proofs.Replay.{same-run}
 
-module _ (p : Planner) (words : List ℕ) (wide : length (p .ends) ≡ rowCount) (ok : isSoundIn p words ≡ true) (m : Made) where
+module _ (p : Planner) (words : List ℕ) (wide : length (p .lists) ≡ listWords) (ok : isSoundIn p words ≡ true) (m : Made) where
   -- the rules' outcome of the call
   abbrev outcome : Outcome
   outcome = step (length words) (tableOf p words) (callOf m)
@@ -46,9 +44,9 @@ module _ (p : Planner) (words : List ℕ) (wide : length (p .ends) ≡ rowCount)
   unfolding heldAs
   next-ok = rw left-is (still-sound (outcome .table) next-kept (drop shareWords words))
 
-  next-wide : length (leftBy p words m .planner .ends) ≡ rowCount
-  unfolding heldAs plannerOf
-  next-wide = rw left-is (padded-length ends-padded rowCount (outcome .table .slices))
+  next-wide : length (leftBy p words m .planner .lists) ≡ listWords
+  unfolding heldAs
+  next-wide = rw left-is (planner-length (outcome .table) (next-kept .slots))
 
   next-long : length (leftBy p words m .words) ≡ length words
   unfolding heldAs
@@ -67,7 +65,7 @@ module _ (p : Planner) (words : List ℕ) (wide : length (p .ends) ≡ rowCount)
   next-buffer = rw left-is
 
 -- The table at the end is the rules' table.
-pub carried-table : (p : Planner) (words : List ℕ) (ms : List Made) → length (p .ends) ≡ rowCount → isSoundIn p words ≡ true
+pub carried-table : (p : Planner) (words : List ℕ) (ms : List Made) → length (p .lists) ≡ listWords → isSoundIn p words ≡ true
     → tableOf (lastPlanner p words ms) (lastWords p words ms) ≡ after (length words) (tableOf p words) (callsOf ms)
 unfolding lastPlanner lastWords after callsOf
 carried-table p words [] wide ok = refl
@@ -76,7 +74,7 @@ carried-table p words (m ∷ ms) wide ok =
     ∙ rw (next-long p words wide ok m, next-table p words wide ok m)
 
 -- The answers are the rules' answers.
-pub carried-answers : (p : Planner) (words : List ℕ) (ms : List Made) → length (p .ends) ≡ rowCount → isSoundIn p words ≡ true
+pub carried-answers : (p : Planner) (words : List ℕ) (ms : List Made) → length (p .lists) ≡ listWords → isSoundIn p words ≡ true
     → answersOf (carried p words ms) ≡ answersIn (outcomes (length words) (tableOf p words) (callsOf ms))
 unfolding carried answersOf answersIn outcomes callsOf
 carried-answers p words [] wide ok = refl
@@ -87,7 +85,7 @@ carried-answers p words (m ∷ ms) wide ok =
     rw (next-answer p words wide ok m, rest)
 
 -- The segment buffers hold the rules' segments, and after them what they held.
-pub carried-segments : (p : Planner) (words : List ℕ) (ms : List Made) → length (p .ends) ≡ rowCount → isSoundIn p words ≡ true
+pub carried-segments : (p : Planner) (words : List ℕ) (ms : List Made) → length (p .lists) ≡ listWords → isSoundIn p words ≡ true
     → buffersOf (carried p words ms) ≡ buffersIn ms (outcomes (length words) (tableOf p words) (callsOf ms))
 unfolding carried buffersOf buffersIn outcomes callsOf
 carried-segments p words [] wide ok = refl
@@ -97,16 +95,16 @@ carried-segments p words (m ∷ ms) wide ok =
     ∙ rw (next-long p words wide ok m, next-table p words wide ok m) in
     rw (next-buffer p words wide ok m, rest)
 
-clock-of : (p : Planner) (words : List ℕ) → tableOf p words .clock ≡ p .clock
+clock-of : (p : Planner) (words : List ℕ) → tableOf p words .clock ≡ p .state .clock
 unfolding tableOf tableAt
 clock-of p words = refl
 
-pub carried-clock : (p : Planner) (words : List ℕ) (ms : List Made) → length (p .ends) ≡ rowCount → isSoundIn p words ≡ true
-    → lastPlanner p words ms .clock ≡ after (length words) (tableOf p words) (callsOf ms) .clock
+pub carried-clock : (p : Planner) (words : List ℕ) (ms : List Made) → length (p .lists) ≡ listWords → isSoundIn p words ≡ true
+    → lastPlanner p words ms .state .clock ≡ after (length words) (tableOf p words) (callsOf ms) .clock
 carried-clock p words ms wide ok = sym (clock-of (lastPlanner p words ms) (lastWords p words ms)) ∙ ap (λ t. t .clock) (carried-table p words ms wide ok)
 
 -- The calls were made at the rules' ticks.
-pub carried-stamps : (p : Planner) (words : List ℕ) (ms : List Made) → length (p .ends) ≡ rowCount → isSoundIn p words ≡ true
+pub carried-stamps : (p : Planner) (words : List ℕ) (ms : List Made) → length (p .lists) ≡ listWords → isSoundIn p words ≡ true
     → stampedIn p words ms ≡ stamped (length words) (tableOf p words) (callsOf ms)
 unfolding stampedIn stamped callsOf
 carried-stamps p words [] wide ok = refl
@@ -114,10 +112,10 @@ carried-stamps p words (m ∷ ms) wide ok =
     let rest : stampedIn (leftBy p words m .planner) (leftBy p words m .words) ms ≡ stamped (length words) (step (length words) (tableOf p words) (callOf m) .table) (callsOf ms) =
     carried-stamps (leftBy p words m .planner) (leftBy p words m .words) ms (next-wide p words wide ok m) (next-ok p words wide ok m)
     ∙ rw (next-long p words wide ok m, next-table p words wide ok m) in
-    ap (λ more. stamp (p .clock) (callOf m) ++ more) rest ∙ ap (λ tick. stamp tick (callOf m) ++ stamped (length words) (step (length words) (tableOf p words) (callOf m) .table) (callsOf ms)) (sym (clock-of p words))
+    ap (λ more. stamp (p .state .clock) (callOf m) ++ more) rest ∙ ap (λ tick. stamp tick (callOf m) ++ stamped (length words) (step (length words) (tableOf p words) (callOf m) .table) (callsOf ms)) (sym (clock-of p words))
 
 -- No call is refused with 1.
-pub carried-never-1 : (p : Planner) (words : List ℕ) (ms : List Made) → length (p .ends) ≡ rowCount → isSoundIn p words ≡ true
+pub carried-never-1 : (p : Planner) (words : List ℕ) (ms : List Made) → length (p .lists) ≡ listWords → isSoundIn p words ≡ true
     → (l : Left) → List·Memᴰ l (carried p words ms) → l .answer .number ≡ 1 → ⊥
 unfolding carried
 carried-never-1 p words (m ∷ ms) wide ok l (List·Memᴰ·head is) one =
@@ -149,7 +147,7 @@ unfolding written
 step-segments words t c buffer = let gs = step words t c .segments in rw (step-count words t c, segments-in gs (drop (4 * length gs) buffer))
 
 -- The record read from the buffers is the rules' record.
-pub carried-record : (p : Planner) (words : List ℕ) (ms : List Made) → length (p .ends) ≡ rowCount → isSoundIn p words ≡ true
+pub carried-record : (p : Planner) (words : List ℕ) (ms : List Made) → length (p .lists) ≡ listWords → isSoundIn p words ≡ true
     → recordIn (carried p words ms) ≡ recordOf (length words) (tableOf p words) (callsOf ms)
 unfolding carried recordIn recordOf callsOf
 carried-record p words [] wide ok = refl
@@ -160,21 +158,21 @@ carried-record p words (m ∷ ms) wide ok =
     rw (next-answer p words wide ok m, next-buffer p words wide ok m, step-segments (length words) (tableOf p words) (callOf m) (bufferOf m), rest)
 
 -- The planner and the words at the end hold a sound table, and the words past it are as they were.
-last-agrees : (p : Planner) (words : List ℕ) (ms : List Made) → length (p .ends) ≡ rowCount → isSoundIn p words ≡ true → Agrees (lastPlanner p words ms) (lastWords p words ms)
+last-agrees : (p : Planner) (words : List ℕ) (ms : List Made) → length (p .lists) ≡ listWords → isSoundIn p words ≡ true → Agrees (lastPlanner p words ms) (lastWords p words ms)
 unfolding lastPlanner lastWords
 last-agrees p words [] wide ok = agrees p words wide ok
 last-agrees p words (m ∷ ms) wide ok = last-agrees (leftBy p words m .planner) (leftBy p words m .words) ms (next-wide p words wide ok m) (next-ok p words wide ok m)
 
-last-past : (p : Planner) (words : List ℕ) (ms : List Made) → length (p .ends) ≡ rowCount → isSoundIn p words ≡ true → drop shareWords (lastWords p words ms) ≡ drop shareWords words
+last-past : (p : Planner) (words : List ℕ) (ms : List Made) → length (p .lists) ≡ listWords → isSoundIn p words ≡ true → drop shareWords (lastWords p words ms) ≡ drop shareWords words
 unfolding lastWords
 last-past p words [] wide ok = refl
 last-past p words (m ∷ ms) wide ok = last-past (leftBy p words m .planner) (leftBy p words m .words) ms (next-wide p words wide ok m) (next-ok p words wide ok m) ∙ next-past p words wide ok m
 
--- How time was cut into advances changes nothing in what runs: the same calls at the same ticks, and the same last clock, leave the same struct
+-- How time was cut into advances changes nothing in what runs: the same calls at the same ticks, and the same last clock, leave the same planner
 -- and the same words.
-pub carried-cut : (p : Planner) (words : List ℕ) (ms ns : List Made) → length (p .ends) ≡ rowCount → isSoundIn p words ≡ true
+pub carried-cut : (p : Planner) (words : List ℕ) (ms ns : List Made) → length (p .lists) ≡ listWords → isSoundIn p words ≡ true
     → stampedIn p words ms ≡ stampedIn p words ns
-    → lastPlanner p words ms .clock ≡ lastPlanner p words ns .clock
+    → lastPlanner p words ms .state .clock ≡ lastPlanner p words ns .state .clock
     → (lastPlanner p words ms ≡ lastPlanner p words ns) × (lastWords p words ms ≡ lastWords p words ns)
 carried-cut p words ms ns wide ok stamps last =
     let one = carried-table p words ms wide ok in
@@ -185,6 +183,6 @@ carried-cut p words ms ns wide ok stamps last =
     one ∙ same-run (length words) 0 0 (tableOf p words) (callsOf ms) (callsOf ns) (sound-of p words ok) (sym (carried-stamps p words ms wide ok) ∙ stamps ∙ carried-stamps p words ns wide ok) clock .1 ∙ sym two in
     let a = last-agrees p words ms wide ok in
     let b = last-agrees p words ns wide ok in (
-      sym (same-planner a) ∙ ap plannerOf same ∙ same-planner b,
-      sym (same-words a) ∙ rw (same, last-past p words ms wide ok, ← (last-past p words ns wide ok)) (same-words b),
+      same-planner (a .holds) ∙ ap plannerOf same ∙ sym (same-planner (b .holds)),
+      same-words (a .holds) words (last-past p words ms wide ok) ∙ rw same (sym (same-words (b .holds) words (last-past p words ns wide ok))),
     )

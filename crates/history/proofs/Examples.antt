@@ -7,13 +7,13 @@ use Prim.Native.Nat.{ℕ, _≤_}
 use lib.Dec.{leb}
 use lib.ListN.{length, length-replicate}
 use borrow.Author.Tests.{le-ltb, leb-true, eq-eqb}
-use Rattle.rules.specs.Station.{Table, rowCount, shareWords}
+use Rattle.rules.specs.Station.{Table, shareWords}
 use Rattle.rules.specs.Calls.{Call, declare, withdraw, release, advance, unsound, refusals, opened, step}
 use Rattle.rules.specs.History.{outcomes}
 use Rattle.rules.specs.Checked.{Line, OK, Example, on, cut, rate, segmentLines, lines, numbers, same, right, allRight, examples}
 use Rattle.rules.proofs.Checked.{rules, all-right}
-use Rattle.planner.specs.declared.Planner.{Planner}
-use Rattle.planner.specs.Held.{tableOf, isSoundIn, Left, opening}
+use Rattle.rules.specs.Held.{Planner, tableOf, isSoundIn, listWords}
+use Rattle.calls.specs.Called.{Left, opening}
 use Rattle.history.specs.Carried.{Made, callOf, bufferOf, callsOf, carried, answersOf, buffersOf, answersIn, buffersIn, segmentsIn}
 use Rattle.history.specs.Examples.{madeOf, mades, handedBack, handed, ranRight, allRan}
 use Rattle.history.proofs.Carried.{carried-answers, carried-segments, step-segments}
@@ -59,7 +59,7 @@ module _ (words : ℕ) (long : shareWords ≤ words) where
   same-outcomes t (c ∷ cs) = rw (same-refusals t c, same-outcomes (step shareWords t c .table) cs)
 
 -- the calls of an example, on a planner and words that hold a sound table
-handed-lines : (p : Planner) (words : List ℕ) (cs : List Call) → length (p .ends) ≡ rowCount → isSoundIn p words ≡ true
+handed-lines : (p : Planner) (words : List ℕ) (cs : List Call) → length (p .lists) ≡ listWords → isSoundIn p words ≡ true
     → handed (carried p words (mades cs)) ≡ lines (outcomes (length words) (tableOf p words) cs)
 unfolding handed
 handed-lines p words cs wide ok =

@@ -7,14 +7,14 @@ use Prim.Native.Nat.{ℕ, _≤_}
 use native.Mathlib.Omega.{arith}
 use lib.ListN.{length, drop, length-append, length-drop}
 use borrow.Author.Tests.{le-ltb}
-use Rattle.rules.specs.Station.{rowCount, shareWords}
+use Rattle.rules.specs.Station.{shareWords}
 use Rattle.rules.specs.Calls.{refused, openRefusals, opened, done}
 use Rattle.rules.specs.History.{after, recordOf, stamped}
 use Rattle.rules.proofs.Kept.{opened-sound}
-use Rattle.plan.proofs.Padded.{ends-padded, padded-length}
-use Rattle.planner.specs.declared.Planner.{Planner}
-use Rattle.planner.specs.Held.{tableOf, plannerOf, isSoundIn, Left, heldAs, openedBy, opening}
-use Rattle.planner.proofs.Round.{same-table, still-sound, words-length}
+use Rattle.rules.specs.Held.{Planner, tableOf, isSoundIn, listWords}
+use Rattle.rules.proofs.Held.{planner-length}
+use Rattle.calls.specs.Called.{Left, heldAs, openedBy, opening}
+use Rattle.calls.proofs.Round.{same-table, still-sound, words-length}
 use Rattle.history.specs.Carried.{Made, callsOf, carried, lastPlanner, recordIn, stampedIn}
 use Rattle.history.proofs.Carried.{carried-record, carried-clock, carried-stamps}
 
@@ -38,9 +38,9 @@ module _ (q : Planner) (words : List ℕ) (long : shareWords ≤ length words) (
   unfolding heldAs done
   open-ok = rw opening-is (still-sound (opened cores) (opened-sound cores some few) (drop shareWords words))
 
-  pub open-wide : length (o .planner .ends) ≡ rowCount
-  unfolding heldAs done plannerOf
-  open-wide = rw opening-is (padded-length ends-padded rowCount (opened cores .slices))
+  pub open-wide : length (o .planner .lists) ≡ listWords
+  unfolding heldAs done
+  open-wide = rw opening-is (planner-length (opened cores) (opened-sound cores some few .slots))
 
   pub open-length : length (o .words) ≡ length words
   unfolding heldAs done
@@ -55,7 +55,7 @@ module _ (q : Planner) (words : List ℕ) (long : shareWords ≤ length words) (
   pub open-record : (ms : List Made) → recordIn (carried p w ms) ≡ recordOf (length words) (opened cores) (callsOf ms)
   open-record ms = carried-record p w ms open-wide open-ok ∙ rw (open-length, open-table)
 
-  pub open-clock : (ms : List Made) → lastPlanner p w ms .clock ≡ after (length words) (opened cores) (callsOf ms) .clock
+  pub open-clock : (ms : List Made) → lastPlanner p w ms .state .clock ≡ after (length words) (opened cores) (callsOf ms) .clock
   open-clock ms = carried-clock p w ms open-wide open-ok ∙ rw (open-length, open-table)
 
   pub open-stamps : (ms : List Made) → stampedIn p w ms ≡ stamped (length words) (opened cores) (callsOf ms)

@@ -11,8 +11,8 @@ use Rattle.rules.specs.Calls.{Call, Outcome, opened}
 use Rattle.rules.specs.History.{after, outcomes, recordOf, heldAt, stamped}
 use Rattle.rules.proofs.Kept.{opened-sound}
 use Rattle.rules.specs.Checked.{examples}
-use Rattle.planner.specs.declared.Planner.{Planner}
-use Rattle.planner.specs.Held.{Left, opening}
+use Rattle.rules.specs.Held.{Planner}
+use Rattle.calls.specs.Called.{Left, opening}
 use Rattle.history.specs.Carried.{Made, callsOf, carried, lastPlanner, lastWords, recordIn, stampedIn}
 use Rattle.history.specs.Examples.{allRan}
 use Rattle.history.specs.Valid.{Valid}
@@ -99,8 +99,8 @@ module _ (q : Planner) (words : List ℕ) (long : 4096 ≤ length words) (m : �
   abbrev jobs : List Made → List Job
   jobs ms = jobsOf (length words) (opened m) (callsOf ms)
 
-  -- How time was cut into advances changes nothing: the same holder of every core in every grain, the same struct, and the same words.
-  pub run-cut : (ms ns : List Made) → stampedIn p w ms ≡ stampedIn p w ns → lastPlanner p w ms .clock ≡ lastPlanner p w ns .clock
+  -- How time was cut into advances changes nothing: the same holder of every core in every grain, the same planner, and the same words.
+  pub run-cut : (ms ns : List Made) → stampedIn p w ms ≡ stampedIn p w ns → lastPlanner p w ms .state .clock ≡ lastPlanner p w ns .state .clock
       → ((core grain : ℕ) → heldAt (recordIn (carried p w ms)) core grain ≡ heldAt (recordIn (carried p w ns)) core grain)
       × (lastPlanner p w ms ≡ lastPlanner p w ns) × (lastWords p w ms ≡ lastWords p w ns)
   run-cut ms ns stamps last =
@@ -111,7 +111,7 @@ module _ (q : Planner) (words : List ℕ) (long : 4096 ≤ length words) (m : �
       ((λ core grain. rw (open-record q words long m some few ms, open-record q words long m some few ns) (cut .0 core grain)), held .0, held .1)
 
   -- The record is valid: every job whose deadline is reached held exactly its allowance, no task held two cores in one grain, none ran without a job.
-  pub run-valid : (ms : List Made) → Valid m (lastPlanner p w ms .clock) (jobs ms) (recordIn (carried p w ms))
+  pub run-valid : (ms : List Made) → Valid m (lastPlanner p w ms .state .clock) (jobs ms) (recordIn (carried p w ms))
   run-valid ms = rw (open-record q words long m some few ms, open-clock q words long m some few ms) (opened-valid (length words) m some few (callsOf ms))
 
   -- No call is refused with 1.

@@ -6,8 +6,8 @@ use Rattle.rules.specs.Wrap.{Segment}
 use Rattle.rules.specs.Calls.{Answer, Outcome, Call, declare, withdraw, release, advance}
 use Rattle.rules.specs.History.{Stamp, stamp}
 use Rattle.rules.specs.Words.{written}
-use Rattle.planner.specs.declared.Planner.{Planner}
-use Rattle.planner.specs.Held.{Left, called}
+use Rattle.rules.specs.Held.{Planner}
+use Rattle.calls.specs.Called.{Left, called}
 
 -- A call as a station makes it: an advance with the segment buffer that it lends.
 pub data Made : Type 0 where
@@ -83,4 +83,4 @@ recordIn (l ∷ ls) = segmentsIn (l .answer .count) (l .buffer) ++ recordIn ls
 -- the task and release calls, refused ones too, with the planner's clock when they were made
 unfoldable pub stampedIn : Planner → List ℕ → List Made → List Stamp
 stampedIn p words [] = []
-stampedIn p words (m ∷ ms) = stamp (p .clock) (callOf m) ++ stampedIn (leftBy p words m .planner) (leftBy p words m .words) ms
+stampedIn p words (m ∷ ms) = stamp (p .state .clock) (callOf m) ++ stampedIn (leftBy p words m .planner) (leftBy p words m .words) ms

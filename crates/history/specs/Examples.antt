@@ -7,8 +7,8 @@ use lib.Dec.{eqb}
 use lib.ListN.{replicate}
 use Rattle.rules.specs.Calls.{Answer, Call, declare, withdraw, release, advance}
 use Rattle.rules.specs.Checked.{Line, OK, NO, Example, on, cut, rate, segmentLines, numbers, same, right}
-use Rattle.planner.specs.declared.Planner.{Planner}
-use Rattle.planner.specs.Held.{Left, opening}
+use Rattle.rules.specs.Held.{Planner}
+use Rattle.calls.specs.Called.{Left, opening}
 use Rattle.history.specs.Carried.{Made, declares, withdraws, releases, advances, carried, answersOf, buffersOf, segmentsIn}
 
 -- a call as a station makes it: an advance lends a buffer of so many zeros

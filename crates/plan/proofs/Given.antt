@@ -17,7 +17,8 @@ use Rattle.rules.specs.Words.{rowsOf, rowAt, rowsIn}
 use Rattle.rules.proofs.Slices.{gift, given-cases}
 use Rattle.rows.proofs.Moves.{Mixed, mixed-more, mixed-ahead}
 use Rattle.table.proofs.Rowed.{length-rowsOf}
-use Rattle.plan.specs.Planned.{Planned, Ready, endsIn, beginOf}
+use Rattle.rules.specs.Held.{endsIn}
+use Rattle.plan.specs.Planned.{Planned, Ready, beginOf}
 use Rattle.plan.proofs.Padded.{rows-padded, padded-length, padded-same}
 use Rattle.plan.proofs.Planned.{begin-next, ready-at}
 

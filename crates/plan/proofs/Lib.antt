@@ -4,3 +4,4 @@ pub mod Placed
 pub mod Given
 pub mod Bounds
 pub mod Ready
+pub mod Replanned

@@ -8,7 +8,7 @@ use native.Mathlib.Omega.{arith}
 use lib.ListN.{length, take, drop}
 use Rattle.rules.specs.Station.{Slice, zeros}
 use Rattle.rules.specs.Words.{rowsIn}
-use Rattle.plan.specs.Planned.{endsIn}
+use Rattle.rules.specs.Held.{endsIn}
 
 -- P n ss has f of each of the slices ss, and then z, in n places
 pub record Padded {A : Type 0} (f : Slice → A) (z : A) (P : ℕ → List Slice → List A) : Type 0 where

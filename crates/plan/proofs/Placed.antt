@@ -15,8 +15,9 @@ use Rattle.rules.specs.Slices.{firstPart, secondPart, isEnd, cutAt, withEnd}
 use Rattle.rules.specs.Sound.{Each, Rises}
 use Rattle.rules.specs.Words.{rowsOf, rowAt, Rowed, cutRows, rowsIn}
 use Rattle.rules.proofs.Slices.{end-after, withEnd-cases}
-use Rattle.rows.specs.Asked.{Cut}
-use Rattle.plan.specs.Planned.{Planned, Ready, endsIn, before, putIn, beginOf}
+use Rattle.line.specs.Asked.{Cut}
+use Rattle.rules.specs.Held.{endsIn}
+use Rattle.plan.specs.Planned.{Planned, Ready, before, putIn, beginOf}
 use Rattle.plan.proofs.Padded.{ends-padded, rows-padded, padded-fewer}
 use Rattle.plan.proofs.Planned.{begin-next, ready-at}
 

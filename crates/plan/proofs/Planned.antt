@@ -12,7 +12,8 @@ use Rattle.rules.specs.Sound.{Each, Rises, Small}
 use Rattle.rules.specs.Words.{rowsOf, rowAt, Rowed, movedUp, slicesOf, rowsIn}
 use Rattle.table.proofs.Rowed.{length-rowsOf}
 use Rattle.table.proofs.Zeros.{zero-rows}
-use Rattle.plan.specs.Planned.{Planned, Ready, endsIn, slicesIn, takenOut, beginOf}
+use Rattle.rules.specs.Held.{endsIn}
+use Rattle.plan.specs.Planned.{Planned, Ready, slicesIn, takenOut, beginOf}
 use Rattle.plan.proofs.Padded.{ends-padded, rows-padded, padded-length, padded-drop}
 
 -- boundaries that hold slices are 64 words
@@ -29,6 +30,17 @@ slices-in (s ∷ ss) (suc n) h = ap (λ l. s ∷ l) (slices-in ss n (le-of-suc-l
 pub planned-slices : {ss : List Slice} {ends : List ℕ} {count : ℕ} {words : List ℕ} → Planned ss ends count words → length ss ≤ 64 → slicesIn ends count words ≡ ss
 unfolding slicesIn
 planned-slices {ss} p h = rw (p .bounds, p .number, p .rows) (slices-in ss 64 h)
+
+slices-most : (es : List ℕ) (rs : List (List ℕ)) → length (slicesOf es rs) ≤ length rs
+unfolding slicesOf
+slices-most [] rs = omega arith
+slices-most (e ∷ es) [] = omega arith
+slices-most (e ∷ es) (r ∷ rs) = omega (arith, slices-most es rs)
+
+-- boundaries that are held with their slices are no more than rows
+pub planned-few : {ends : List ℕ} {count : ℕ} {words : List ℕ} → Planned (slicesIn ends count words) ends count words → count ≤ 64
+unfolding slicesIn
+planned-few {ends} {count} {words} p = omega (arith, p .number, slices-most (take count ends) (rowsOf 64 words), length-rowsOf 64 words)
 
 -- boundaries and as many rows, zero from c on
 held-in : (es : List ℕ) (rs : List (List ℕ)) (c : ℕ) → length rs ≡ length es → c ≤ length es → sum (drop c es) ≡ 0

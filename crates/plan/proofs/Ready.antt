@@ -1,20 +1,19 @@
 -- What the routines ask of slices holds in a sound table, and of its slices lowered at the clock.
--- Each boundary is a pending job's deadline, so it is soon; rising boundaries are deadlines of as many tasks, so they are few.
+-- Each boundary is a pending job's deadline, so it is soon, and the slices are no more than the tasks.
 use mathlib.Core.Path.{_≡_, ap, _∙_}
-use mathlib.Core.Bool.{true, false, cond, false≢true}
-use mathlib.Core.List.{List, [], _∷_}
-use Prim.Native.Nat.{ℕ, suc, _+_, _≤_, _<_}
+use mathlib.Core.Bool.{true}
+use mathlib.Core.List.{List}
+use Prim.Native.Nat.{ℕ, _+_, _≤_, _<_}
 use native.Mathlib.Omega.{arith}
-use lib.Dec.{ltb}
 use lib.ListN.{length, getD, set, length-set}
 use lib.Seq.{getD-set-same}
-use borrow.Author.Tests.{lt-ltb, le-ltb, ne-eqb}
 use Rattle.rules.specs.declared.Task.{Task}
 use Rattle.rules.specs.Station.{Slice, Table, longestPeriod, free, inUse}
 use Rattle.rules.specs.Slices.{withEnd}
 use Rattle.rules.specs.Release.{lowered}
-use Rattle.rules.specs.Sound.{Each, Columns, Rises, Small, Sound, isDeadline}
-use Rattle.rules.proofs.Floor.{by-lt, by-eq, by-bool}
+use Rattle.rules.specs.Sound.{Each, Rises, AtDeadline, Small, Sound, isDeadline}
+use Rattle.rules.proofs.Floor.{by-lt, by-bool}
+use Rattle.rules.proofs.Few.{few-slices}
 use Rattle.rules.proofs.Sound.{SliceOk, each-map}
 use Rattle.rules.proofs.Tasks.{pending-some, deadline-slot, slot-deadline, deadline-kept, set-each}
 use Rattle.rules.proofs.Whole.{Room, room, sound-whole}
@@ -22,44 +21,14 @@ use Rattle.rules.proofs.Released.{lowered-ok, withEnd-room}
 use Rattle.rules.proofs.Kept.{first-ahead}
 use Rattle.plan.specs.Planned.{Ready}
 
--- how many tasks have a deadline after lo
-unfoldable after : ℕ → List Task → ℕ
-after lo [] = 0
-after lo (k ∷ ks) = cond (ltb lo (k .deadline)) 1 0 + after lo ks
-
-after-most : (lo : ℕ) (ks : List Task) → after lo ks ≤ length ks
-unfolding after
-after-most lo [] = omega arith
-after-most lo (k ∷ ks) = elim (ltb lo (k .deadline)) as (λ t. cond t 1 0 + after lo ks ≤ suc (length ks)) [ true ↦ omega (arith, after-most lo ks) | false ↦ omega (arith, after-most lo ks) ]
-
-module _ (lo e : ℕ) (up : lo < e) where
-  one-fewer : (d : ℕ) → cond (ltb e d) 1 0 ≤ cond (ltb lo d) 1 0
-  one-fewer d = by-lt e d (λ l. rw (lt-ltb e d l, lt-ltb lo d (omega arith)) (omega arith)) (λ g. rw (le-ltb e d g) (omega arith))
-
-  after-fewer : (ks : List Task) → after e ks ≤ after lo ks
-  unfolding after
-  after-fewer [] = omega arith
-  after-fewer (k ∷ ks) = omega (arith, one-fewer (k .deadline), after-fewer ks)
-
-  -- a task with the deadline e is after lo and not after e
-  after-one : (ks : List Task) → isDeadline e ks ≡ true → after e ks + 1 ≤ after lo ks
-  unfolding after isDeadline
-  after-one [] h = absurd (false≢true h)
-  after-one (k ∷ ks) h =
-      by-eq e (k .deadline)
-      (λ q. rw (le-ltb e (k .deadline) (omega arith), lt-ltb lo (k .deadline) (omega arith)) (omega (arith, after-fewer ks)))
-      (λ ne. omega (arith, one-fewer (k .deadline), after-one ks (rw ne-eqb at h)))
-
-few-slices : (ks js : List Task) (lo : ℕ) (ss : List Slice) → Each (Room ks js) lo ss → length ss ≤ after lo js
-few-slices ks js lo [] ok = omega arith
-few-slices ks js lo (s ∷ ss) ok = omega (arith, few-slices ks js (s .end) ss (ok .1), after-one lo (s .end) (ok .0 .rises) js (ok .0 .deadline))
+rises : (ks js : List Task) (lo : ℕ) (ss : List Slice) → Each (Room ks js) lo ss → Each Rises lo ss
+rises ks js = each-map (Room ks js) Rises (λ l s r. r .rises)
 
 -- slices beside the tasks ks, where their ends are deadlines of js: all within a period of lo
 ready-room : (ks js : List Task) (lo : ℕ) → length js ≡ 64 → ((i : ℕ) → getD js i free .deadline ≤ lo + longestPeriod) → (ss : List Slice) → Each (Room ks js) lo ss → Ready lo ss
 ready-room ks js lo wide soon ss ok = record {
-  few = omega (arith, few-slices ks js lo ss ok, after-most lo js);
-  columns = each-map (Room ks js) Columns (λ l s r. r .columns) lo ss ok;
-  rising = each-map (Room ks js) Rises (λ l s r. r .rises) lo ss ok;
+  few = omega (arith, few-slices js lo ss (rises ks js lo ss ok) (each-map (Room ks js) (AtDeadline js) (λ l s r. r .deadline) lo ss ok));
+  rising = rises ks js lo ss ok;
   soon = each-map (Room ks js) (λ l s. s .end ≤ lo + longestPeriod) (λ l s r. let at = deadline-slot (s .end) js (r .deadline) in omega (arith, at .1, soon (at .0))) lo ss ok;
   small = each-map (Room ks js) Small (λ l s r i. r .shares i .small) lo ss ok;
 }

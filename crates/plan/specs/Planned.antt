@@ -6,14 +6,9 @@ use Prim.Native.Nat.{ℕ, zero, suc, _+_, _-_, _≤_}
 use lib.Dec.{ltb}
 use lib.ListN.{length, take, drop, getD}
 use Rattle.rules.specs.Station.{Slice, longestPeriod, rowCount}
-use Rattle.rules.specs.Sound.{Each, Columns, Rises, Small}
+use Rattle.rules.specs.Sound.{Each, Rises, Small}
+use Rattle.rules.specs.Held.{endsIn}
 use Rattle.rules.specs.Words.{rowsOf, rowsIn, slicesOf}
-
--- n boundaries: those of the slices, then zeros
-unfoldable pub endsIn : ℕ → List Slice → List ℕ
-endsIn zero ss = []
-endsIn (suc n) [] = 0 ∷ endsIn n []
-endsIn (suc n) (s ∷ ss) = s .end ∷ endsIn n ss
 
 -- the slices that are held
 unfoldable pub slicesIn : List ℕ → ℕ → List ℕ → List Slice
@@ -25,10 +20,9 @@ pub record Planned (ss : List Slice) (ends : List ℕ) (count : ℕ) (words : Li
   pub number : count ≡ length ss
   pub rows : rowsOf rowCount words ≡ rowsIn rowCount ss
 
--- what the routines ask of the slices ss that begin at lo: a row of 64 shares for each, rising ends within a period of lo, small shares
+-- what the routines ask of the slices ss that begin at lo: no more than rows, rising ends within a period of lo, small shares
 pub record Ready (lo : ℕ) (ss : List Slice) : Type 0 where
   pub few : length ss ≤ rowCount
-  pub columns : Each Columns lo ss
   pub rising : Each Rises lo ss
   pub soon : Each (λ l s. s .end ≤ lo + longestPeriod) lo ss
   pub small : Each Small lo ss

@@ -1,13 +1,1 @@
-pub mod Joint
-pub mod Called
-pub mod Slotted
-pub mod Reasons
-pub mod Withdrawn
-pub mod Opening
-pub mod Declaring
-pub mod Releasing
-pub mod First
-pub mod Onward
-pub mod Looking
-pub mod Round
 pub mod Promises

@@ -1,4 +1,1 @@
-pub mod Held
-pub mod Holding
-pub mod Releasing
-pub mod Reasons
+pub mod Struct

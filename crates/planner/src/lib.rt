@@ -1,76 +1,128 @@
-// The planner: a small state by value, and six calls on it and the words that the station lends.
-pub mod advance; // advance.rt: advance
-pub mod look; // look.rt: holder
-pub mod open; // open.rt: a planner before any open, and open
-pub mod release; // release.rt: release
-pub mod tasks; // tasks.rt: declare and withdraw
-
-use rules::Task;
+// The planner as a struct by value: its methods take `self` and hand back the next planner with the answer. Each copies the lists into a
+// local, makes the call on it, and builds the next struct; the calls themselves are those of `calls`.
+use calls::Answer;
+use rules::LIST_WORDS;
+use rules::State;
+use wrap::look::Holder;
 ghost use mathlib.Core.Path.{_≡_};
-ghost use Prim.Native.Nat.{ℕ, _<_};
+ghost use mathlib.Core.List.{[]};
 ghost use lib.ListN.{length};
-ghost use Rattle.rules.specs.Station.{rowCount};
-ghost use mathlib.Core.List.{List};
-ghost use Rattle.planner.specs.Held.{isSoundIn, leaves, unchanged};
+ghost use Rattle.rules.specs.Calls.{declare, withdraw, release, advance};
+ghost use Rattle.wrap.specs.Holding.{toldBy};
+ghost use Rattle.calls.specs.Called.{called, opening, blankPlanner};
+ghost use Rattle.calls.specs.Holding.{told};
+ghost use Rattle.planner.specs.Struct.{inStruct, leavesBy};
 
-// "cores, clock, plan start, slots in use as one 64-bit word, 64 tasks", and the boundaries with their number.
+// "cores, clock, plan start, slots in use as one 64-bit word", the number of boundaries; and the words of 64 boundaries and 64 tasks.
 pub struct Planner {
-    pub cores: u64,
-    pub clock: u64,
-    pub start: u64,
-    pub used: u64,
-    pub tasks: [Task; 64],
-    pub count: u64,
-    pub ends: [u64; 64],
+    pub state: State,
+    pub lists: [u64; LIST_WORDS],
 }
 
-// What a call answers: done, with its value and the count of segments; or refused, with the refusal's number.
-pub enum Answer {
-    Done(u64, u64),
-    Refused(u64),
-}
-
-// The next state, with the answer.
+// The next planner, with the answer.
 pub struct Next {
     pub planner: Planner,
     pub answer: Answer,
 }
 
-// Who holds a core: a slot, until a grain; nobody, until the grain at which slice 0 ends; nobody, without a limit; or a refusal.
-pub enum Holder {
-    Held(u64, u64),
-    IdleUntil(u64),
-    Idle,
-    Refused(u64),
-}
-
 impl Planner {
-    // Whether the table is sound: asked by each call itself.
-    fn sound(self, shares: &[u32]) -> bool
-        ensures { λ r. ⌜ (r ≡ isSoundIn self (now (shares .entry))) × (length (self .ends) ≡ rowCount) ⌝ }
+    // The planner before any open: it has no core, so no call but open takes it.
+    pub fn blank() -> Planner
+        ensures { λ r. ⌜ inStruct r ≡ blankPlanner ⌝ }
     {
-        let tasks = self.tasks;
-        let ends = self.ends;
-        sound::whole::sound(
-            self.cores,
-            self.clock,
-            self.start,
-            self.used,
-            tasks,
-            self.count,
-            ends,
-            shares,
-        )
+        let state = State {
+            cores: 0,
+            clock: 0,
+            start: 0,
+            used: 0,
+            count: 0,
+        };
+        Planner {
+            state,
+            lists: [0u64; LIST_WORDS],
+        }
     }
 
-    // Everything as it was, and a refusal's number.
-    fn refuse(self, number: u64) -> Next
-        requires { ⌜ 0 < number ⌝ }
-        ensures { λ r. ⌜ ((words buffer : List ℕ) → leaves r words buffer ≡ unchanged number self words buffer) ⌝ }
+    // Open: "a fresh table, clock 0, all 4,096 words zero". Value: the cores.
+    pub fn open(self, shares: &mut [u32], cores: u64) -> Next
+        ensures { λ r. ⌜ leavesBy r (now (shares .exit)) [] ≡ opening (inStruct self) (now (shares .entry)) cores ⌝ }
     {
+        let mut lists = self.lists;
+        let moved = calls::open::open(self.state, &mut lists, shares, cores);
+        let state = moved.state;
+        let answer = moved.answer;
         Next {
-            planner: self,
-            answer: Answer::Refused(number),
+            planner: Planner { state, lists },
+            answer,
         }
+    }
+
+    // Declare: the lowest free slot. Value: the slot.
+    pub fn declare(self, shares: &[u32], period: u64, cost: u64) -> Next
+        ensures { λ r. ⌜ leavesBy r (now (shares .entry)) []
+            ≡ called (inStruct self) (now (shares .entry)) [] (declare period cost) ⌝ }
+    {
+        let mut lists = self.lists;
+        let moved = calls::tasks::declare(self.state, &mut lists, shares, period, cost);
+        let state = moved.state;
+        let answer = moved.answer;
+        Next {
+            planner: Planner { state, lists },
+            answer,
+        }
+    }
+
+    // Withdraw: the slot is free again and may be used again at once. Value 0.
+    pub fn withdraw(self, shares: &[u32], slot: u64) -> Next
+        ensures { λ r. ⌜ leavesBy r (now (shares .entry)) []
+            ≡ called (inStruct self) (now (shares .entry)) [] (withdraw slot) ⌝ }
+    {
+        let mut lists = self.lists;
+        let moved = calls::tasks::withdraw(self.state, &mut lists, shares, slot);
+        let state = moved.state;
+        let answer = moved.answer;
+        Next {
+            planner: Planner { state, lists },
+            answer,
+        }
+    }
+
+    // Release: the slot's task gets a job, due a period after the clock. Value: its deadline.
+    pub fn release(self, shares: &mut [u32], slot: u64) -> Next
+        ensures { λ r. ⌜ leavesBy r (now (shares .exit)) []
+            ≡ called (inStruct self) (now (shares .entry)) [] (release slot) ⌝ }
+    {
+        let mut lists = self.lists;
+        let moved = calls::release::release(self.state, &mut lists, shares, slot);
+        let state = moved.state;
+        let answer = moved.answer;
+        Next {
+            planner: Planner { state, lists },
+            answer,
+        }
+    }
+
+    // Advance: to a tick, or to the first boundary, with the segments on the way. Value: the tick reached, and the count of segments.
+    pub fn advance(self, shares: &mut [u32], tick: u64, segments: &mut [u64]) -> Next
+        ensures { λ r. ⌜ leavesBy r (now (shares .exit)) (now (segments .exit))
+            ≡ called (inStruct self) (now (shares .entry)) (now (segments .entry))
+            (advance tick (length (now (segments .entry)))) ⌝ }
+    {
+        let mut lists = self.lists;
+        let moved = calls::advance::advance(self.state, &mut lists, shares, tick, segments);
+        let state = moved.state;
+        let answer = moved.answer;
+        Next {
+            planner: Planner { state, lists },
+            answer,
+        }
+    }
+
+    // Holder: the slot that holds a core now, with the grain at which its segment ends; changes nothing.
+    pub fn holder(self, shares: &[u32], core: u64) -> Holder
+        ensures { λ r. ⌜ toldBy r ≡ told (inStruct self) (now (shares .entry)) core ⌝ }
+    {
+        let lists = self.lists;
+        calls::holder::holder(self.state, &lists, shares, core)
     }
 }

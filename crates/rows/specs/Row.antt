@@ -2,8 +2,12 @@
 -- pending, and each slot's rate.
 use mathlib.Core.Bool.{Bool, true, cond, _&&_}
 use mathlib.Core.List.{List, [], _∷_}
-use Prim.Native.Nat.{ℕ, _+_}
+use mathlib.Core.Path.{_≡_}
+use Prim.Native.Nat.{ℕ, _+_, _≤_}
 use lib.Dec.{leb, ltb, eqb}
+use lib.ListN.{length}
+use Rattle.rules.specs.Station.{slotCount, grains, longestPeriod, sum}
+use Rattle.rows.specs.declared.look.RowFacts.{RowFacts}
 
 -- the highest bit of a word of 32 bits: words below it do not have it
 abbrev pub mark : ℕ
@@ -28,3 +32,19 @@ owedIn end (d ∷ ds) (r ∷ rs) = cond (leb end d) r 0 + owedIn end ds rs
 unfoldable pub hitsIn : ℕ → List ℕ → ℕ
 hitsIn end [] = 0
 hitsIn end (d ∷ ds) = cond (eqb end d) 1 0 + hitsIn end ds
+
+-- What a look asks: a deadline and a rate for each slot, rates whose sum fits a word, and a slice no longer than a period.
+pub record Rated (due rates : List ℕ) (most : ℕ) : Type 0 where
+  pub dues : length due ≡ slotCount
+  pub rated : length rates ≡ slotCount
+  pub small : sum rates ≤ 4294967295
+  pub short : most ≤ grains longestPeriod
+
+-- What it hands back. A row that does not fit has no sum: it may have wrapped.
+pub record Facts (end most : ℕ) (due rates row : List ℕ) (r : RowFacts) : Type 0 where
+  pub fit : r .fits ≡ sharesFit end most due row
+  pub sum-is : r .fits ≡ true → r .sum ≡ sum row
+  pub owed-is : r .owed ≡ owedIn end due rates
+  pub hits-are : r .hits ≡ hitsIn end due
+  pub small : r .owed ≤ 4294967295
+  pub few : r .hits ≤ slotCount

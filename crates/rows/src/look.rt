@@ -1,19 +1,19 @@
-use crate::SLOTS;
 use crate::word::wide;
 use crate::word::wrapped;
-ghost use mathlib.Core.Bool.{true, cond, _&&_};
+use rules::SLOTS;
+ghost use mathlib.Core.Bool.{cond, _&&_};
 ghost use mathlib.Core.Path.{_≡_};
 ghost use Prim.Native.Nat.{_≤_};
 ghost use lib.Dec.{leb, ltb, eqb};
 ghost use lib.ListN.{length};
-ghost use Rattle.rules.specs.Station.{slotCount, grains, longestPeriod, sum};
-ghost use Rattle.rows.specs.Row.{mark, shareFits, sharesFit, owedIn, hitsIn};
+ghost use Rattle.rules.specs.Station.{slotCount, grains, longestPeriod};
+ghost use Rattle.rows.specs.Row.{mark, shareFits, Rated, Facts};
 
 // The highest bit of a word.
 const MARK: u32 = 2147483648;
 
-// What a sound table asks of a row, in one pass: whether each share fits, the shares added up where they do, the rates of the
-// jobs that are due at the slice's end or after it, and how many are due at it.
+// What a sound table asks of a row, in one pass: whether each share fits, the shares added up where they do, the rates
+// of the jobs that are due at the slice's end or after it, and how many are due at it.
 pub struct RowFacts {
     pub fits: bool,
     pub sum: u64,
@@ -28,7 +28,7 @@ fn bound(due: u32, end: u32, most: u32) -> u32
     if due < end { 0 } else { most }
 }
 
-// A word whose highest bit is set exactly where a share is more than its bound, without a test: where the difference wraps.
+// A word whose highest bit is set exactly where a share is more than its bound, without a test: the difference wraps.
 fn excess(share: u32, most: u32) -> u32
     requires { ⌜ most ≤ grains longestPeriod ⌝ }
     ensures { λ r. ⌜ ltb r mark ≡ leb share most ⌝ }
@@ -54,24 +54,27 @@ fn with_share(over: u32, share: u32, due: u32, end: u32, most: u32) -> u32
 
 // The rate of a job that is due at the end or after it, or 0.
 pub fn rate_due(rate: u32, due: u32, end: u32) -> u32
-    ensures { λ r. ⌜ (r ≡ cond (leb end due) rate 0) × (r ≤ rate) ⌝ }
+    ensures { λ r. ⌜ r ≡ cond (leb end due) rate 0 ⌝ }
+    ensures { λ r. ⌜ r ≤ rate ⌝ }
 {
     if end <= due { rate } else { 0 }
 }
 
 // 1 for a job that is due at the end.
 pub fn hit(due: u32, end: u32) -> u32
-    ensures { λ r. ⌜ (r ≡ cond (eqb end due) 1 0) × (r ≤ 1) ⌝ }
+    ensures { λ r. ⌜ r ≡ cond (eqb end due) 1 0 ⌝ }
+    ensures { λ r. ⌜ r ≤ 1 ⌝ }
 {
     if end == due { 1 } else { 0 }
 }
 
-// The row of a slice that ends `end` ticks after the plan start and has `most` grains. `due` has each slot's deadline, in ticks
-// after the plan start, or 0 where no job is pending. All words have 32 bits, so that the compiler takes four slots at once:
-// where each share fits, the sum has not wrapped.
+// The row of a slice that ends `end` ticks after the plan start and has `most` grains. `due` has each slot's deadline,
+// in ticks after the plan start, or 0 where no job is pending. All words have 32 bits, so that the compiler takes four
+// slots at once: where each share fits, the sum has not wrapped.
 pub fn look(row: &[u32], due: &[u32], rates: &[u32], end: u32, most: u32) -> RowFacts
-    requires { ⌜ (length (now row) ≡ slotCount) × (length (now due) ≡ slotCount) × (length (now rates) ≡ slotCount) × (sum (now rates) ≤ 4294967295) × (most ≤ grains longestPeriod) ⌝ }
-    ensures { λ r. ⌜ (r .fits ≡ sharesFit end most (now (due .entry)) (now (row .entry))) × (r .fits ≡ true → r .sum ≡ sum (now (row .entry))) × (r .owed ≡ owedIn end (now (due .entry)) (now (rates .entry))) × (r .hits ≡ hitsIn end (now (due .entry))) × (r .owed ≤ 4294967295) × (r .hits ≤ slotCount) ⌝ }
+    requires { ⌜ length (now row) ≡ slotCount ⌝ }
+    requires { ⌜ Rated (now due) (now rates) most ⌝ }
+    ensures { λ r. ⌜ Facts end most (now (due .entry)) (now (rates .entry)) (now (row .entry)) r ⌝ }
 {
     let mut over: u32 = 0;
     let mut sum: u32 = 0;

@@ -1,6 +1,6 @@
-use crate::SLOTS;
 use crate::word::narrow;
 use crate::word::wide;
+use rules::SLOTS;
 ghost use mathlib.Core.Path.{_≡_};
 ghost use mathlib.Core.List.{_++_};
 ghost use Prim.Native.Nat.{_+_, _*_, _≤_, _<_};
@@ -39,7 +39,9 @@ pub fn copy_down(two: &mut [u32])
 
 // One slot gets more grains.
 pub fn add(row: &mut [u32], slot: usize, grains: u64)
-    requires { ⌜ (length (now row) ≡ slotCount) × (slot < slotCount) × (getD (now row) slot 0 + grains ≤ 4294967295) ⌝ }
+    requires { ⌜ length (now row) ≡ slotCount ⌝ }
+    requires { ⌜ slot < slotCount ⌝ }
+    requires { ⌜ getD (now row) slot 0 + grains ≤ 4294967295 ⌝ }
     ensures { λ _. ⌜ now (row .exit) ≡ set (now (row .entry)) slot (getD (now (row .entry)) slot 0 + grains) ⌝ }
 {
     row[slot] = narrow(wide(row[slot]) + grains);

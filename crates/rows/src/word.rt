@@ -4,7 +4,8 @@ ghost use Prim.Native.Nat.{min, _+_, _%_, _≤_};
 
 // The bound is stated for the loops that add up.
 pub fn wide(share: u32) -> u64
-    ensures { λ r. ⌜ (r ≡ share) × (r ≤ 4294967295) ⌝ }
+    ensures { λ r. ⌜ r ≡ share ⌝ }
+    ensures { λ r. ⌜ r ≤ 4294967295 ⌝ }
 {
     share as u64
 }
@@ -24,14 +25,16 @@ pub fn smaller(a: u64, b: u64) -> u64
 
 // Two words in one, which is zero only where both are: a test for zeros that needs no wider sum.
 pub fn joined(a: u32, b: u32) -> u32
-    ensures { λ r. ⌜ (r ≡ 0 → a + b ≡ 0) × (a + b ≡ 0 → r ≡ 0) ⌝ }
+    ensures { λ r. ⌜ (r ≡ 0 → a + b ≡ 0) ⌝ }
+    ensures { λ r. ⌜ (a + b ≡ 0 → r ≡ 0) ⌝ }
 {
     a | b
 }
 
 // Four words in one.
 pub fn joined_four(a: u32, b: u32, c: u32, d: u32) -> u32
-    ensures { λ r. ⌜ (r ≡ 0 → a + b + (c + d) ≡ 0) × (a + b + (c + d) ≡ 0 → r ≡ 0) ⌝ }
+    ensures { λ r. ⌜ (r ≡ 0 → a + b + (c + d) ≡ 0) ⌝ }
+    ensures { λ r. ⌜ (a + b + (c + d) ≡ 0 → r ≡ 0) ⌝ }
 {
     joined(joined(a, b), joined(c, d))
 }

@@ -2,13 +2,14 @@
 use mathlib.Core.Path.{_≡_, ap, _∙_}
 use mathlib.Core.List.{List}
 use Prim.Native.Nat.{ℕ}
+use Rattle.calls.specs.Called.{answerOf, Left, leaves}
 use Rattle.planner.specs.declared.Next.{Next}
-use Rattle.planner.specs.Held.{answerOf, Left, leaves}
+use Rattle.planner.specs.Struct.{inStruct, leavesBy}
 use Rattle.script.specs.declared.Reply.{Reply}
 use Rattle.script.specs.Drilled.{answerText, printed, Printable, Printed, Answers}
 
-module _ (next : Next) (words buffer : List ℕ) {l : Left} (e : leaves next words buffer ≡ l) where
-  left-planner : next .planner ≡ l .planner
+module _ (next : Next) (words buffer : List ℕ) {l : Left} (e : leavesBy next words buffer ≡ l) where
+  left-planner : inStruct (next .planner) ≡ l .planner
   unfolding leaves
   left-planner = ap (λ k. k .planner) e
 
@@ -32,4 +33,4 @@ module _ (next : Next) (words buffer : List ℕ) {l : Left} (e : leaves next wor
   pub left-answers : {b after was is : List ℕ} {r : Reply} → after ≡ b → r .planner ≡ next .planner → Printed (answerText (answerOf (next .answer)) after) (r .used) was is
       → Answers (printed l b) r words after was is
   unfolding printed
-  left-answers {b} {after} same to shown = record { planner = to ∙ left-planner; shares = left-words; segments = same; printed = rw (← left-answer, ← same) shown }
+  left-answers {b} {after} same to shown = record { planner = ap (λ p. inStruct p) to ∙ left-planner; shares = left-words; segments = same; printed = rw (← left-answer, ← same) shown }

@@ -11,7 +11,8 @@ use Rattle.rules.proofs.Floor.{by-bool}
 use Rattle.lines.specs.declared.Filled.{Filled}
 use Rattle.lines.specs.Lines.{newline, lineEnd, headOf, taken, Keeps, Fills}
 use Rattle.lines.proofs.Kept.{keeps-none, keeps-filled}
-use Rattle.planner.specs.declared.Planner.{Planner}
+use Rattle.planner.specs.declared.Planner.{Planner as Struct}
+use Rattle.planner.specs.Struct.{inStruct}
 use Rattle.script.specs.declared.Reply.{Reply}
 use Rattle.script.specs.declared.Fed.{Fed}
 use Rattle.script.specs.Drilled.{Drilled, drilled, Answers}
@@ -72,23 +73,23 @@ fed-part d kept (b ∷ bs) all =
     (λ e. let more : length bs ≤ lineEnd bs = omega (arith, end-later b bs e) in
     rw (taken-later b bs e, head-later b bs e) (fed-later d kept b (take (taken bs) bs) e ∙ fed-part d (kept ++ (b ∷ [])) bs more ∙ ap (midst d) (append-assoc kept (b ∷ []) (headOf bs))))
 
-abbrev pub fedOf : Planner → ℕ → ℕ → ℕ → Fed
+abbrev pub fedOf : Struct → ℕ → ℕ → ℕ → Fed
 fedOf p len used written = record { planner = p; len = len; used = used; written = written }
 
-module _ {line : List ℕ} {len : ℕ} {piece : List ℕ} {r : Filled} {after : List ℕ} (f : Fills line len piece r after) {kept : List ℕ} (k : Keeps line len kept) (p : Planner) (words buffer : List ℕ) where
+module _ {line : List ℕ} {len : ℕ} {piece : List ℕ} {r : Filled} {after : List ℕ} (f : Fills line len piece r after) {kept : List ℕ} (k : Keeps line len kept) (p : Struct) (words buffer : List ℕ) where
   -- no line has ended
-  pub comes-part : r .ended ≡ false → (out : List ℕ) → Comes (fed (midst (silent p words buffer) kept) (take (r .used) piece)) (fedOf p (r .len) (r .used) 0) words buffer after out out
+  pub comes-part : r .ended ≡ false → (out : List ℕ) → Comes (fed (midst (silent (inStruct p) words buffer) kept) (take (r .used) piece)) (fedOf p (r .len) (r .used) 0) words buffer after out out
   comes-part open′ out =
       let all : length piece ≤ lineEnd piece = ltb-false _ _ (sym (f .ended) ∙ open′) in
-      rw (f .used, fed-part (silent p words buffer) kept piece all) (record { planner = refl; shares = refl; segments = refl; keeps = keeps-filled k f; size = refl; bytes = refl })
+      rw (f .used, fed-part (silent (inStruct p) words buffer) kept piece all) (record { planner = refl; shares = refl; segments = refl; keeps = keeps-filled k f; size = refl; bytes = refl })
 
   -- a line has ended and was answered
-  pub comes-ended : r .ended ≡ true → {reply : Reply} {words′ buffer′ was is : List ℕ} → Answers (drilled p words buffer (kept ++ headOf piece)) reply words′ buffer′ was is
-      → Comes (fed (midst (silent p words buffer) kept) (take (r .used) piece)) (fedOf (reply .planner) 0 (r .used) (reply .used)) words′ buffer′ after was is
+  pub comes-ended : r .ended ≡ true → {reply : Reply} {words′ buffer′ was is : List ℕ} → Answers (drilled (inStruct p) words buffer (kept ++ headOf piece)) reply words′ buffer′ was is
+      → Comes (fed (midst (silent (inStruct p) words buffer) kept) (take (r .used) piece)) (fedOf (reply .planner) 0 (r .used) (reply .used)) words′ buffer′ after was is
   unfolding next
   comes-ended over a =
       let inside : lineEnd piece < length piece = ltb-true _ _ (sym (f .ended) ∙ over) in
-      rw (f .used, fed-ended (silent p words buffer) kept piece inside) (record {
+      rw (f .used, fed-ended (silent (inStruct p) words buffer) kept piece inside) (record {
         planner = a .planner;
         shares = a .shares;
         segments = a .segments;
@@ -98,14 +99,14 @@ module _ {line : List ℕ} {len : ℕ} {piece : List ℕ} {r : Filled} {after : 
       })
 
 -- at the end, nothing is kept
-pub last-none : (p : Planner) (words buffer out kept : List ℕ) → length kept ≡ 0 → Answers (lastly (silent p words buffer) kept) (record { planner = p; used = 0 }) words buffer out out
+pub last-none : (p : Struct) (words buffer out kept : List ℕ) → length kept ≡ 0 → Answers (lastly (silent (inStruct p) words buffer) kept) (record { planner = p; used = 0 }) words buffer out out
 unfolding lastly
 last-none p words buffer out [] none = record { planner = refl; shares = refl; segments = refl; printed = record { size = refl; short = omega arith; bytes = refl } }
 last-none p words buffer out (k ∷ ks) none = absurd (omega arith)
 
 -- or a last line
-pub last-some : (p : Planner) (words buffer kept : List ℕ) → 0 < length kept → {reply : Reply} {words′ buffer′ was is : List ℕ} → Answers (drilled p words buffer kept) reply words′ buffer′ was is
-    → Answers (lastly (silent p words buffer) kept) reply words′ buffer′ was is
+pub last-some : (p : Struct) (words buffer kept : List ℕ) → 0 < length kept → {reply : Reply} {words′ buffer′ was is : List ℕ} → Answers (drilled (inStruct p) words buffer kept) reply words′ buffer′ was is
+    → Answers (lastly (silent (inStruct p) words buffer) kept) reply words′ buffer′ was is
 unfolding lastly next
 last-some p words buffer [] some a = absurd (omega arith)
 last-some p words buffer (k ∷ ks) some a = record { planner = a .planner; shares = a .shares; segments = a .segments; printed = a .printed }

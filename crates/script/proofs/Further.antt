@@ -8,8 +8,10 @@ use lib.Dec.{eqb}
 use lib.ListN.{length, take, drop, length-append, length-drop, drop-of-length-le}
 use lib.Seq.{take-at, drop-at, drop-drop, take-add, take-all, length-take-le}
 use Rattle.rules.proofs.Floor.{by-bool, by-lt}
+use Rattle.rules.specs.Held.{Planner}
 use Rattle.lines.specs.Lines.{newline, lineBytes, taken, Keeps}
-use Rattle.planner.specs.declared.Planner.{Planner}
+use Rattle.planner.specs.declared.Planner.{Planner as Struct}
+use Rattle.planner.specs.Struct.{inStruct}
 use Rattle.script.specs.declared.Fed.{Fed}
 use Rattle.script.specs.Drilled.{Drilled, answerBytes}
 use Rattle.script.specs.Fed.{next, Midst, midst, silent, fed, lastly, finished, Comes, Goes}
@@ -42,26 +44,26 @@ lastly-prefixed t d (k ∷ ks) = next-prefixed t d (k ∷ ks)
 
 module _ {m : Midst} {r : Fed} {words buffer line was is : List ℕ} (c : Comes m r words buffer line was is) where
   -- what is held, with what was printed in front
-  come-to : midst (prefixed (m .drilled .text) (silent (r .planner) words buffer)) (m .kept) ≡ m
+  come-to : midst (prefixed (m .drilled .text) (silent (inStruct (r .planner)) words buffer)) (m .kept) ≡ m
   come-to = rw (c .planner, c .shares, c .segments, append-nil (m .drilled .text))
 
   pub come-printed : take (r .written) is ≡ m .drilled .text
   come-printed = rw (c .bytes) (take-at (m .drilled .text) (drop (r .written) was) (r .written) (sym (c .size)))
 
   -- the end, with what was printed in front
-  pub come-last : finished m ≡ prefixed (m .drilled .text) (lastly (silent (r .planner) words buffer) (m .kept))
+  pub come-last : finished m ≡ prefixed (m .drilled .text) (lastly (silent (inStruct (r .planner)) words buffer) (m .kept))
   unfolding finished
-  come-last = ap finished (sym come-to) ∙ lastly-prefixed (m .drilled .text) (silent (r .planner) words buffer) (m .kept)
+  come-last = ap finished (sym come-to) ∙ lastly-prefixed (m .drilled .text) (silent (inStruct (r .planner)) words buffer) (m .kept)
 
 -- some bytes more, whose text goes behind what was printed
 pub comes-more : {m : Midst} {r : Fed} {words buffer line was is : List ℕ} → Comes m r words buffer line was is
-    → (xs : List ℕ) {s : Fed} {words′ buffer′ line′ part : List ℕ} → Comes (fed (midst (silent (r .planner) words buffer) (m .kept)) xs) s words′ buffer′ line′ (drop (r .written) is) part
+    → (xs : List ℕ) {s : Fed} {words′ buffer′ line′ part : List ℕ} → Comes (fed (midst (silent (inStruct (r .planner)) words buffer) (m .kept)) xs) s words′ buffer′ line′ (drop (r .written) is) part
     → (used : ℕ) → Comes (fed m xs) (record { planner = s .planner; len = s .len; used = used; written = r .written + s .written }) words′ buffer′ line′ was (take (r .written) is ++ part)
 comes-more {m} {r} {words} {buffer} {line} {was} {is} c xs {s} {words′} {buffer′} {line′} {part} d used =
     let t = m .drilled .text in
     let w = r .written in
-    let start : fed m xs ≡ behind t (fed (midst (silent (r .planner) words buffer) (m .kept)) xs) = ap (λ k. fed k xs) (sym (come-to c)) ∙ fed-prefixed t (silent (r .planner) words buffer) (m .kept) xs in
-    let text = fed (midst (silent (r .planner) words buffer) (m .kept)) xs .drilled .text in
+    let start : fed m xs ≡ behind t (fed (midst (silent (inStruct (r .planner)) words buffer) (m .kept)) xs) = ap (λ k. fed k xs) (sym (come-to c)) ∙ fed-prefixed t (silent (inStruct (r .planner)) words buffer) (m .kept) xs in
+    let text = fed (midst (silent (inStruct (r .planner)) words buffer) (m .kept)) xs .drilled .text in
     let past : drop w is ≡ drop w was = ap (drop w) (c .bytes) ∙ drop-at t (drop w was) w (sym (c .size)) in
     let rest : part ≡ text ++ drop (w + s .written) was = d .bytes ∙ ap (λ l. text ++ drop (s .written) l) past ∙ ap (λ l. text ++ l) (drop-drop (s .written) w was) in
     rw start (record {
@@ -85,7 +87,7 @@ pub record Going (p : Planner) (words₀ buffer₀ line₀ : List ℕ) (len : �
   pub same-out : length out ≡ length out₀
   pub comes : (kept : List ℕ) → Keeps line₀ len kept → Comes (fed (midst (silent p words₀ buffer₀) kept) (take (r .used) piece)) r words buffer line out₀ out
 
-pub going-none : (p : Planner) (words buffer line : List ℕ) (len : ℕ) (piece out : List ℕ) → len ≤ suc lineBytes → Going p words buffer line len piece out words buffer line out (fedOf p len 0 0)
+pub going-none : (p : Struct) (words buffer line : List ℕ) (len : ℕ) (piece out : List ℕ) → len ≤ suc lineBytes → Going (inStruct p) words buffer line len piece out words buffer line out (fedOf p len 0 0)
 unfolding fed
 going-none p words buffer line len piece out short = record {
   within = omega arith;
@@ -132,7 +134,7 @@ module _ {p : Planner} {words₀ buffer₀ line₀ : List ℕ} {len : ℕ} {piec
   -- one line more
   pub going-more : {s : Fed} {xs words′ buffer′ line′ was part after : List ℕ} → xs ≡ drop (r .used) piece → was ≡ drop (r .written) out → after ≡ take (r .written) out ++ part
       → s .len ≤ suc lineBytes → s .used ≡ taken xs → s .written ≤ answerBytes
-      → ((kept : List ℕ) → Keeps line (r .len) kept → Comes (fed (midst (silent (r .planner) words buffer) kept) (take (s .used) xs)) s words′ buffer′ line′ was part)
+      → ((kept : List ℕ) → Keeps line (r .len) kept → Comes (fed (midst (silent (inStruct (r .planner)) words buffer) kept) (take (s .used) xs)) s words′ buffer′ line′ was part)
       → length words′ ≡ length words → length buffer′ ≡ length buffer → length line′ ≡ length line → length part ≡ length was
       → Going p words₀ buffer₀ line₀ len piece out₀ words′ buffer′ line′ after (fedOf (s .planner) (s .len) (r .used + s .used) (r .written + s .written))
   going-more {s} {xs} {words′} {buffer′} {line′} {was} {part} {after} rest behind′ now short used written step sw sb sl so =

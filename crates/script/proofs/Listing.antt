@@ -10,9 +10,9 @@ use Rattle.rules.specs.Station.{shareWords}
 use Rattle.rules.specs.Calls.{Call, declare, release, advance, opened, segmentWords}
 use Rattle.rules.specs.Checked.{lines}
 use Rattle.rules.specs.History.{outcomes}
+use Rattle.rules.specs.Held.{Planner}
 use Rattle.rules.proofs.Checked.{rules}
 use Rattle.lines.specs.Lines.{lastLine, linesFrom, linesOf}
-use Rattle.planner.specs.declared.Planner.{Planner}
 use Rattle.text.specs.declared.Command.the-variants.{Open}
 use Rattle.text.specs.Answers.{lineText}
 use Rattle.text.specs.Grammar.{decimal, numberText, isDigit, allDigits, leadingZero, isNumber, valueFrom, valueOf, onto, pieces, oneField, twoFields, ofPieces, commandOf, fieldText, shortText, okText, noText, sgText}

@@ -5,24 +5,24 @@ use mathlib.Core.List.{List, [], _∷_, _++_}
 use Prim.Native.Nat.{ℕ, zero, suc, _-_, _≤_, _<_}
 use native.Mathlib.Omega.{arith}
 use lib.ListN.{length, take, getD}
-use Rattle.rules.specs.Station.{Slice, Table, rowCount, grains, mostCores}
+use Rattle.rules.specs.Station.{Slice, Table, grains, mostCores}
 use Rattle.rules.specs.Sound.{Sound}
 use Rattle.rules.specs.Wrap.{Window, wrapOf, clipped, window, segmentsTo}
 use Rattle.rules.specs.Advance.{reached}
 use Rattle.rules.specs.Calls.{Call, declare, withdraw, release, advance, refusal, refused, openRefusals, done, accepted, step}
 use Rattle.rules.specs.Words.{wordsOf}
+use Rattle.rules.specs.Held.{Planner, tableOf, plannerOf, stateOf, isSoundIn, endsOf, listWords}
+use Rattle.rules.proofs.Held.{planner-length}
 use Rattle.rules.proofs.Floor.{by-bool, by-lt}
 use Rattle.rules.proofs.Count.{wrap-most}
 use Rattle.rules.proofs.Steps.{decided-cases}
-use Rattle.plan.proofs.Padded.{ends-padded, padded-length}
 use Rattle.wrap.specs.Shown.{shown}
 use Rattle.wrap.specs.Asked.{mostSegments}
-use Rattle.planner.specs.declared.Planner.{Planner}
-use Rattle.planner.specs.Held.{Agrees, tableOf, plannerOf, isSoundIn, unchanged, heldAs, called, openedBy, opening}
-use Rattle.planner.proofs.Joint.{agrees}
-use Rattle.planner.proofs.First.{first, segments-shown}
-use Rattle.planner.proofs.Round.{same-table, still-sound}
-use Rattle.planner.proofs.Promises.{sound-of}
+use Rattle.calls.specs.Called.{Agrees, unchanged, heldAs, called, openedBy, opening}
+use Rattle.calls.proofs.Joint.{agrees}
+use Rattle.calls.proofs.First.{front, segments-shown}
+use Rattle.calls.proofs.Round.{same-table, still-sound}
+use Rattle.calls.proofs.Promises.{sound-of}
 use Rattle.script.specs.Drilled.{Printable}
 
 no-segments : (w : Window) (start : ℕ) (ss : List Slice) → length ss ≤ 0 → length (clipped w (wrapOf start ss)) ≤ mostSegments
@@ -37,9 +37,8 @@ module _ (t : Table) (sound : Sound t) where
   abbrev words : List ℕ
   words = wordsOf t ++ []
 
-  wide : length (held .ends) ≡ rowCount
-  unfolding plannerOf
-  wide = padded-length ends-padded rowCount (t .slices)
+  wide : length (held .lists) ≡ listWords
+  wide = planner-length t (sound .slots)
 
   there : Agrees held words
   there = agrees held words wide (still-sound t sound [])
@@ -47,21 +46,21 @@ module _ (t : Table) (sound : Sound t) where
   back : tableOf held words ≡ t
   back = same-table t sound []
 
-  some-held : (to : ℕ) → 0 < held .count → length (segmentsTo t to) ≤ mostSegments
+  some-held : (to : ℕ) → 0 < held .state .count → length (segmentsTo t to) ≤ mostSegments
   unfolding shown
   some-held to some =
-      let k = first there some in
-      let is : segmentsTo t to ≡ shown (grains (held .start)) (grains (held .clock - held .start)) (grains (to - held .start)) (grains (getD (held .ends) 0 0 - held .start)) (take 64 words) =
+      let k = front there some in
+      let is : segmentsTo t to ≡ shown (grains (held .state .start)) (grains (held .state .clock - held .state .start)) (grains (to - held .state .start)) (grains (getD (endsOf (held .lists)) 0 0 - held .state .start)) (take 64 words) =
       ap (λ u. segmentsTo u to) (sym back) ∙ segments-shown there some to in
-      rw is (omega (arith, wrap-most (record { base = grains (held .start); from = grains (held .clock - held .start); to = grains (to - held .start) }) (k .laid .some) mostCores (take 64 words) (omega arith) (k .fits), k .laid .long))
+      rw is (omega (arith, wrap-most (record { base = grains (held .state .start); from = grains (held .state .clock - held .state .start); to = grains (to - held .state .start) }) (k .laid .some) mostCores (take 64 words) (omega arith) (k .fits), k .laid .long))
 
-  none-held : (to : ℕ) → held .count ≤ 0 → length (segmentsTo t to) ≤ mostSegments
-  unfolding plannerOf segmentsTo
+  none-held : (to : ℕ) → held .state .count ≤ 0 → length (segmentsTo t to) ≤ mostSegments
+  unfolding plannerOf stateOf segmentsTo
   none-held to none = no-segments (window (t .start) (t .clock) to) (t .start) (t .slices) none
 
   -- "At most 79 exist."
   pub few-segments : (to : ℕ) → length (segmentsTo t to) ≤ mostSegments
-  few-segments to = by-lt 0 (held .count) (some-held to) (none-held to)
+  few-segments to = by-lt 0 (held .state .count) (some-held to) (none-held to)
 
 pub refusal-printable : (n : ℕ) → Printable (refusal n)
 unfolding refusal

@@ -9,9 +9,9 @@ use lib.Seq.{drop-drop}
 use borrow.Author.Tests.{ne-eqb}
 use Rattle.rules.specs.Calls.{refusal}
 use Rattle.wrap.specs.Asked.{mostSegments}
-use Rattle.planner.specs.declared.Answer.{Answer}
-use Rattle.planner.specs.declared.Answer.the-variants.{Done, Refused}
-use Rattle.planner.specs.Held.{answerOf}
+use Rattle.calls.specs.declared.Answer.{Answer}
+use Rattle.calls.specs.declared.Answer.the-variants.{Done, Refused}
+use Rattle.calls.specs.Called.{answerOf}
 use Rattle.text.specs.Grammar.{okText, noText, putAt}
 use Rattle.text.proofs.Promises.{ok-length, no-length, sg-length}
 use Rattle.script.specs.Drilled.{segmentText, segmentTexts, answerText, Printable, Printed}

@@ -1,26 +1,27 @@
 -- What holds of the drill: how its input arrives changes nothing; malformed lines, lines before the first open, and open; and every other
 -- line prints what the rules print.
 use mathlib.Core.Path.{_≡_, refl, ap, sym, _∙_}
-use mathlib.Core.Bool.{true}
+use mathlib.Core.Bool.{true, or-true}
 use mathlib.Core.Logic.{_⊎_, inl, inr}
 use mathlib.Core.List.{List, [], _∷_, _++_, append-nil}
 use Prim.Native.Nat.{ℕ, _≤_, _<_}
 use native.Mathlib.Omega.{arith}
 use lib.Seq.{take-at}
 use lib.ListN.{length, take, drop, length-append, length-drop}
-use borrow.Author.Tests.{le-ltb, ne-eqb}
+use borrow.Author.Tests.{le-ltb, lt-ltb, ne-eqb}
 use Rattle.rules.specs.Station.{shareWords}
 use Rattle.rules.specs.Calls.{Call, declare, withdraw, release, advance, refusal, refused, openRefusals, opened, done, segmentWords}
 use Rattle.rules.specs.Words.{wordsOf}
 use Rattle.rules.specs.History.{outcomes}
+use Rattle.rules.specs.Held.{Planner, tableOf, plannerOf, isSoundIn}
 use Rattle.rules.specs.Checked.{lines}
 use Rattle.rules.proofs.Kept.{opened-sound}
 use Rattle.lines.specs.Lines.{linesOf}
-use Rattle.planner.specs.declared.Planner.{Planner}
-use Rattle.planner.specs.Held.{tableOf, plannerOf, blankPlanner, isSoundIn, unchanged, heldAs, called, openedBy, opening}
-use Rattle.planner.proofs.Called.{called-unsound}
-use Rattle.planner.proofs.Opening.{blank-unsound, open-none, open-many}
-use Rattle.planner.proofs.Round.{same-table, words-length, still-sound}
+use Rattle.planner.specs.Struct.{inStruct}
+use Rattle.calls.specs.Called.{blankPlanner, unchanged, heldAs, called, openedBy, opening}
+use Rattle.calls.proofs.Called.{called-unsound}
+use Rattle.calls.proofs.Opening.{blank-unsound, open-refused as refused-open}
+use Rattle.calls.proofs.Round.{same-table, words-length, still-sound}
 use Rattle.text.specs.declared.Command.{Command}
 use Rattle.text.specs.declared.Command.the-variants.{Open, Declare, Withdraw, Release, Advance, Malformed}
 use Rattle.text.specs.Grammar.{commandOf, okText, noText}
@@ -50,12 +51,12 @@ same-bytes p words buffer one other e =
 -- The code: where its calls have come through the bytes xs of a script (as `feed` and `feed_lines` say), and `finish` follows, the planner, the
 -- words and the bytes printed are those of the script's lines, answered one after another.
 pub whole-script : (p : Planner) (words₀ buffer₀ xs : List ℕ) {r : Fed} {words buffer line was is : List ℕ} → Comes (fed (midst (silent p words₀ buffer₀) []) xs) r words buffer line was is
-    → {reply : Reply} {words′ buffer′ other out : List ℕ} → Answers (lastly (silent (r .planner) words buffer) (fed (midst (silent p words₀ buffer₀) []) xs .kept)) reply words′ buffer′ other out
-    → scripted (silent p words₀ buffer₀) (linesOf xs) ≡ state (reply .planner) words′ buffer′ (take (r .written) is ++ take (reply .used) out)
+    → {reply : Reply} {words′ buffer′ other out : List ℕ} → Answers (lastly (silent (inStruct (r .planner)) words buffer) (fed (midst (silent p words₀ buffer₀) []) xs .kept)) reply words′ buffer′ other out
+    → scripted (silent p words₀ buffer₀) (linesOf xs) ≡ state (inStruct (reply .planner)) words′ buffer′ (take (r .written) is ++ take (reply .used) out)
 unfolding linesOf
 whole-script p words₀ buffer₀ xs {r} {words} {buffer} c {reply} {words′} {buffer′} {other} {out} a =
     let m = fed (midst (silent p words₀ buffer₀) []) xs in
-    let d = lastly (silent (r .planner) words buffer) (m .kept) in
+    let d = lastly (silent (inStruct (r .planner)) words buffer) (m .kept) in
     let last : take (reply .used) out ≡ d .text = rw (a .printed .bytes) (take-at (d .text) (drop (reply .used) other) (reply .used) (sym (a .printed .size))) in
     sym (fed-lines (silent p words₀ buffer₀) [] xs) ∙ come-last c ∙ rw (a .planner, a .shares, a .segments, come-printed c, last)
 
@@ -104,11 +105,15 @@ module _ (p : Planner) (words buffer line : List ℕ) (cores : ℕ) (says : comm
   unfolding drilled answered printed opening openedBy refused openRefusals heldAs done answerText segmentTexts
   opens-afresh some few = rw (says, le-ltb (length words) shareWords room, le-ltb cores 1 some, le-ltb 16 cores few, append-nil (okText cores))
 
+  refused-two : 2 ≡ refused (openRefusals (length words) cores) → drilled p words buffer line ≡ toldOnly p words buffer 2
+  unfolding drilled answered
+  refused-two two = rw says (ap (λ l. printed l buffer) (sym (refused-open p words cores 2 two (λ z. omega arith))) ∙ refusal-told 2 p words [] buffer (λ z. omega arith))
+
   -- Any other `CO` answers 2 and changes nothing.
   pub open-refused : (cores < 1) ⊎ (16 < cores) → drilled p words buffer line ≡ toldOnly p words buffer 2
-  unfolding drilled answered
-  open-refused (inl none) = rw says (ap (λ l. printed l buffer) (sym (open-none p words cores room none)) ∙ refusal-told 2 p words [] buffer (λ z. omega arith))
-  open-refused (inr many) = rw says (ap (λ l. printed l buffer) (sym (open-many p words cores room many)) ∙ refusal-told 2 p words [] buffer (λ z. omega arith))
+  unfolding refused openRefusals
+  open-refused (inl none) = refused-two (rw (le-ltb (length words) shareWords room, lt-ltb cores 1 none))
+  open-refused (inr many) = refused-two (rw (le-ltb (length words) shareWords room, lt-ltb 16 cores many, or-true))
 
 -- Lines that say calls, on a sound table, print what the rules print of those calls, with 320 words or more of segment buffer.
 pub prints-the-rules : (p : Planner) (words buffer : List ℕ) → isSoundIn p words ≡ true → shareWords ≤ length words → segmentWords ≤ length buffer

@@ -13,16 +13,16 @@ use Rattle.rules.specs.Calls.{Call, declare, withdraw, release, advance, Outcom
 use Rattle.rules.specs.Sound.{Sound}
 use Rattle.rules.specs.History.{outcomes}
 use Rattle.rules.specs.Words.{wordsOf, segmentsFlat, written}
+use Rattle.rules.specs.Held.{Planner, tableOf, plannerOf, isSoundIn}
 use Rattle.rules.specs.Checked.{Line, segmentLines, lines}
 use Rattle.rules.proofs.Floor.{by-bool}
 use Rattle.rules.proofs.Steps.{decided-cases}
 use Rattle.rules.proofs.Kept.{step-sound}
 use Rattle.wrap.specs.Asked.{mostSegments}
-use Rattle.planner.specs.declared.Planner.{Planner}
-use Rattle.planner.specs.Held.{tableOf, plannerOf, isSoundIn, heldAs, called}
-use Rattle.planner.proofs.Called.{written-none}
-use Rattle.planner.proofs.Round.{same-table, words-length, still-sound}
-use Rattle.planner.proofs.Promises.{sound-of}
+use Rattle.calls.specs.Called.{heldAs, called}
+use Rattle.calls.proofs.Joint.{written-none}
+use Rattle.calls.proofs.Round.{same-table, words-length, still-sound}
+use Rattle.calls.proofs.Promises.{sound-of}
 use Rattle.text.specs.Answers.{lineText}
 use Rattle.text.specs.Grammar.{commandOf, okText, noText}
 use Rattle.script.specs.Drilled.{Drilled, segmentText, segmentTexts, answerText, printed, answered, drilled}

@@ -6,9 +6,10 @@ use Prim.Native.Nat.{ℕ, zero, suc, _≤_, _<_}
 use lib.Dec.{eqb}
 use lib.ListN.{length, drop, getD}
 use Rattle.rules.specs.Calls.{Answer as Handed, declare, withdraw, release, advance}
+use Rattle.rules.specs.Held.{Planner}
 use Rattle.wrap.specs.Asked.{mostSegments}
-use Rattle.planner.specs.declared.Planner.{Planner}
-use Rattle.planner.specs.Held.{Left, called, opening}
+use Rattle.calls.specs.Called.{Left, called, opening}
+use Rattle.planner.specs.Struct.{inStruct}
 use Rattle.text.specs.declared.Command.{Command}
 use Rattle.text.specs.declared.Command.the-variants.{Open, Declare, Withdraw, Release, Advance, Malformed}
 use Rattle.text.specs.Grammar.{commandOf, okText, noText, sgText}
@@ -68,7 +69,7 @@ pub record Printed (text : List ℕ) (used : ℕ) (was is : List ℕ) : Type 0 w
 
 -- A line was answered as d says.
 pub record Answers (d : Drilled) (r : Reply) (words buffer was is : List ℕ) : Type 0 where
-  pub planner : r .planner ≡ d .planner
+  pub planner : inStruct (r .planner) ≡ d .planner
   pub shares : words ≡ d .words
   pub segments : buffer ≡ d .buffer
   pub printed : Printed (d .text) (r .used) was is

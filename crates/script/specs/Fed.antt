@@ -5,8 +5,9 @@ use mathlib.Core.List.{List, [], _∷_, _++_}
 use Prim.Native.Nat.{ℕ, suc, _≤_, _<_}
 use lib.Dec.{eqb}
 use lib.ListN.{length, drop}
+use Rattle.rules.specs.Held.{Planner}
 use Rattle.lines.specs.Lines.{newline, lineBytes, Keeps}
-use Rattle.planner.specs.declared.Planner.{Planner}
+use Rattle.planner.specs.Struct.{inStruct}
 use Rattle.script.specs.declared.Fed.{Fed}
 use Rattle.script.specs.Drilled.{Drilled, drilled, answerBytes}
 
@@ -62,7 +63,7 @@ silent p words buffer = record { planner = p; words = words; buffer = buffer; te
 
 -- The code has come to m: the state, the lent words, what is stored of the unfinished line, and what was printed.
 pub record Comes (m : Midst) (r : Fed) (words buffer line was is : List ℕ) : Type 0 where
-  pub planner : r .planner ≡ m .drilled .planner
+  pub planner : inStruct (r .planner) ≡ m .drilled .planner
   pub shares : words ≡ m .drilled .words
   pub segments : buffer ≡ m .drilled .buffer
   pub keeps : Keeps line (r .len) (m .kept)

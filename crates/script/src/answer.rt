@@ -1,5 +1,5 @@
 use crate::Reply;
-use planner::Answer;
+use calls::Answer;
 use planner::Next;
 use planner::Planner;
 use text::Command;
@@ -12,14 +12,16 @@ ghost use Prim.Native.Nat.{_+_, _*_, _≤_, _<_};
 ghost use lib.ListN.{length, drop};
 ghost use Rattle.rules.specs.Calls.{segmentWords};
 ghost use Rattle.wrap.specs.Asked.{mostSegments};
-ghost use Rattle.planner.specs.Held.{answerOf};
+ghost use Rattle.calls.specs.Called.{answerOf};
+ghost use Rattle.planner.specs.Struct.{inStruct};
 ghost use Rattle.text.specs.Grammar.{noText, putAt};
 ghost use Rattle.script.specs.Drilled.{answerBytes, segmentText, segmentTexts, answerText, answered, drilled, Printable, Printed, Answers};
 
 // Segment k of the buffer, printed from a place on. Hands back the place after it.
 fn print_segment(segments: &[u64], k: usize, out: &mut [u8], at: usize) -> usize
     requires { ⌜ (k < mostSegments) × (segmentWords ≤ length (now segments)) × (at + 87 ≤ length (now out)) ⌝ }
-    ensures { λ r. ⌜ (r ≡ at + length (segmentText (drop (4 * k) (now (segments .entry))))) × (now (out .exit) ≡ putAt at (segmentText (drop (4 * k) (now (segments .entry)))) (now (out .entry))) ⌝ }
+    ensures { λ r. ⌜ (r ≡ at + length (segmentText (drop (4 * k) (now (segments .entry)))))
+        × (now (out .exit) ≡ putAt at (segmentText (drop (4 * k) (now (segments .entry)))) (now (out .entry))) ⌝ }
 {
     let first = 4 * k;
     write_segment(
@@ -34,8 +36,11 @@ fn print_segment(segments: &[u64], k: usize, out: &mut [u8], at: usize) -> usize
 
 // The first `count` segments of the buffer, printed from a place on. Hands back the place after them.
 fn print_segments(segments: &[u64], count: usize, out: &mut [u8], at: usize) -> usize
-    requires { ⌜ (count ≤ mostSegments) × (segmentWords ≤ length (now segments)) × (at + 87 * count ≤ length (now out)) ⌝ }
-    ensures { λ r. ⌜ (r ≡ at + length (segmentTexts count (now (segments .entry)))) × (now (out .exit) ≡ putAt at (segmentTexts count (now (segments .entry))) (now (out .entry))) × (r ≤ at + 87 * count) ⌝ }
+    requires { ⌜ (count ≤ mostSegments) × (segmentWords ≤ length (now segments))
+        × (at + 87 * count ≤ length (now out)) ⌝ }
+    ensures { λ r. ⌜ (r ≡ at + length (segmentTexts count (now (segments .entry))))
+        × (now (out .exit) ≡ putAt at (segmentTexts count (now (segments .entry))) (now (out .entry)))
+        × (r ≤ at + 87 * count) ⌝ }
 {
     let mut end = at;
     let mut k: usize = 0;
@@ -59,8 +64,10 @@ fn number_of(answer: Answer) -> u64
 
 // An answer, printed at the front of the output, with the segments that it counts. Hands back how many bytes that are.
 fn print(answer: Answer, segments: &[u64], out: &mut [u8]) -> usize
-    requires { ⌜ Printable (answerOf answer) × (segmentWords ≤ length (now segments)) × (answerBytes ≤ length (now out)) ⌝ }
-    ensures { λ r. ⌜ Printed (answerText (answerOf answer) (now (segments .entry))) r (now (out .entry)) (now (out .exit)) ⌝ }
+    requires { ⌜ Printable (answerOf answer) × (segmentWords ≤ length (now segments))
+        × (answerBytes ≤ length (now out)) ⌝ }
+    ensures { λ r. ⌜ Printed (answerText (answerOf answer) (now (segments .entry)))
+        r (now (out .entry)) (now (out .exit)) ⌝ }
 {
     let number = number_of(answer);
     let Answer::Done(value, count) = answer else {
@@ -72,8 +79,11 @@ fn print(answer: Answer, segments: &[u64], out: &mut [u8]) -> usize
 
 // What a call hands back, printed; and the state that it leaves.
 fn reply(next: Next, segments: &[u64], out: &mut [u8]) -> Reply
-    requires { ⌜ Printable (answerOf (next .answer)) × (segmentWords ≤ length (now segments)) × (answerBytes ≤ length (now out)) ⌝ }
-    ensures { λ r. ⌜ (r .planner ≡ next .planner) × Printed (answerText (answerOf (next .answer)) (now (segments .entry))) (r .used) (now (out .entry)) (now (out .exit)) ⌝ }
+    requires { ⌜ Printable (answerOf (next .answer)) × (segmentWords ≤ length (now segments))
+        × (answerBytes ≤ length (now out)) ⌝ }
+    ensures { λ r. ⌜ (r .planner ≡ next .planner)
+        × Printed (answerText (answerOf (next .answer)) (now (segments .entry)))
+        (r .used) (now (out .entry)) (now (out .exit)) ⌝ }
 {
     let planner = next.planner;
     let answer = next.answer;
@@ -99,7 +109,8 @@ fn answer_command(
     out: &mut [u8],
 ) -> Reply
     requires { ⌜ (segmentWords ≤ length (now segments)) × (answerBytes ≤ length (now out)) ⌝ }
-    ensures { λ r. ⌜ Answers (answered p (now (shares .entry)) (now (segments .entry)) command) r (now (shares .exit)) (now (segments .exit)) (now (out .entry)) (now (out .exit)) ⌝ }
+    ensures { λ r. ⌜ Answers (answered (inStruct p) (now (shares .entry)) (now (segments .entry)) command)
+        r (now (shares .exit)) (now (segments .exit)) (now (out .entry)) (now (out .exit)) ⌝ }
 {
     match command {
         Command::Open(cores) => reply(p.open(shares, cores), segments, out),
@@ -120,7 +131,8 @@ pub fn answer_line(
     out: &mut [u8],
 ) -> Reply
     requires { ⌜ (segmentWords ≤ length (now segments)) × (answerBytes ≤ length (now out)) ⌝ }
-    ensures { λ r. ⌜ Answers (drilled p (now (shares .entry)) (now (segments .entry)) (now (line .entry))) r (now (shares .exit)) (now (segments .exit)) (now (out .entry)) (now (out .exit)) ⌝ }
+    ensures { λ r. ⌜ Answers (drilled (inStruct p) (now (shares .entry)) (now (segments .entry)) (now (line .entry)))
+        r (now (shares .exit)) (now (segments .exit)) (now (out .entry)) (now (out .exit)) ⌝ }
 {
     answer_command(p, shares, segments, read_command(line), out)
 }

@@ -11,6 +11,7 @@ ghost use mathlib.Core.List.{List};
 ghost use Prim.Native.Nat.{ℕ, suc, _≤_};
 ghost use lib.ListN.{length, take};
 ghost use Rattle.rules.specs.Calls.{segmentWords};
+ghost use Rattle.planner.specs.Struct.{inStruct};
 ghost use Rattle.lines.specs.Lines.{lineBytes, taken, Keeps};
 ghost use Rattle.script.specs.Drilled.{answerBytes, drilled, Answers};
 ghost use Rattle.script.specs.Fed.{midst, silent, fed, lastly, Comes, Goes};
@@ -24,8 +25,11 @@ fn answer_kept(
     len: usize,
     out: &mut [u8],
 ) -> Reply
-    requires { ⌜ (segmentWords ≤ length (now segments)) × (answerBytes ≤ length (now out)) × (lineBytes ≤ length (now line)) ⌝ }
-    ensures { λ r. ⌜ (r .used ≤ answerBytes) × ((kept : List ℕ) → Keeps (now (line .entry)) len kept → Answers (drilled p (now (shares .entry)) (now (segments .entry)) kept) r (now (shares .exit)) (now (segments .exit)) (now (out .entry)) (now (out .exit))) ⌝ }
+    requires { ⌜ (segmentWords ≤ length (now segments)) × (answerBytes ≤ length (now out))
+        × (lineBytes ≤ length (now line)) ⌝ }
+    ensures { λ r. ⌜ (r .used ≤ answerBytes) × ((kept : List ℕ) → Keeps (now (line .entry)) len kept
+        → Answers (drilled (inStruct p) (now (shares .entry)) (now (segments .entry)) kept)
+        r (now (shares .exit)) (now (segments .exit)) (now (out .entry)) (now (out .exit))) ⌝ }
 {
     if LINE_BYTES < len {
         return malformed(p, out);
@@ -43,8 +47,13 @@ pub fn feed(
     piece: &[u8],
     out: &mut [u8],
 ) -> Fed
-    requires { ⌜ (segmentWords ≤ length (now segments)) × (answerBytes ≤ length (now out)) × (lineBytes ≤ length (now line)) × (len ≤ suc lineBytes) ⌝ }
-    ensures { λ r. ⌜ (r .len ≤ suc lineBytes) × (r .used ≡ taken (now (piece .entry))) × (r .written ≤ answerBytes) × ((kept : List ℕ) → Keeps (now (line .entry)) len kept → Comes (fed (midst (silent p (now (shares .entry)) (now (segments .entry))) kept) (take (r .used) (now (piece .entry)))) r (now (shares .exit)) (now (segments .exit)) (now (line .exit)) (now (out .entry)) (now (out .exit))) ⌝ }
+    requires { ⌜ (segmentWords ≤ length (now segments)) × (answerBytes ≤ length (now out))
+        × (lineBytes ≤ length (now line)) × (len ≤ suc lineBytes) ⌝ }
+    ensures { λ r. ⌜ (r .len ≤ suc lineBytes) × (r .used ≡ taken (now (piece .entry))) × (r .written ≤ answerBytes)
+        × ((kept : List ℕ) → Keeps (now (line .entry)) len kept
+        → Comes (fed (midst (silent (inStruct p) (now (shares .entry)) (now (segments .entry))) kept)
+        (take (r .used) (now (piece .entry))))
+        r (now (shares .exit)) (now (segments .exit)) (now (line .exit)) (now (out .entry)) (now (out .exit))) ⌝ }
 {
     let filled = fill(line, len, piece);
     if !filled.ended {
@@ -74,8 +83,11 @@ pub fn finish(
     len: usize,
     out: &mut [u8],
 ) -> Reply
-    requires { ⌜ (segmentWords ≤ length (now segments)) × (answerBytes ≤ length (now out)) × (lineBytes ≤ length (now line)) ⌝ }
-    ensures { λ r. ⌜ (r .used ≤ answerBytes) × ((kept : List ℕ) → Keeps (now (line .entry)) len kept → Answers (lastly (silent p (now (shares .entry)) (now (segments .entry))) kept) r (now (shares .exit)) (now (segments .exit)) (now (out .entry)) (now (out .exit))) ⌝ }
+    requires { ⌜ (segmentWords ≤ length (now segments)) × (answerBytes ≤ length (now out))
+        × (lineBytes ≤ length (now line)) ⌝ }
+    ensures { λ r. ⌜ (r .used ≤ answerBytes) × ((kept : List ℕ) → Keeps (now (line .entry)) len kept
+        → Answers (lastly (silent (inStruct p) (now (shares .entry)) (now (segments .entry))) kept)
+        r (now (shares .exit)) (now (segments .exit)) (now (out .entry)) (now (out .exit))) ⌝ }
 {
     if len == 0 {
         return Reply {
@@ -96,8 +108,13 @@ pub fn feed_lines(
     piece: &[u8],
     out: &mut [u8],
 ) -> Fed
-    requires { ⌜ (segmentWords ≤ length (now segments)) × (lineBytes ≤ length (now line)) × (len ≤ suc lineBytes) ⌝ }
-    ensures { λ r. ⌜ Goes (length (now (piece .entry))) (length (now (out .entry))) r × ((kept : List ℕ) → Keeps (now (line .entry)) len kept → Comes (fed (midst (silent p (now (shares .entry)) (now (segments .entry))) kept) (take (r .used) (now (piece .entry)))) r (now (shares .exit)) (now (segments .exit)) (now (line .exit)) (now (out .entry)) (now (out .exit))) ⌝ }
+    requires { ⌜ (segmentWords ≤ length (now segments)) × (lineBytes ≤ length (now line))
+        × (len ≤ suc lineBytes) ⌝ }
+    ensures { λ r. ⌜ Goes (length (now (piece .entry))) (length (now (out .entry))) r
+        × ((kept : List ℕ) → Keeps (now (line .entry)) len kept
+        → Comes (fed (midst (silent (inStruct p) (now (shares .entry)) (now (segments .entry))) kept)
+        (take (r .used) (now (piece .entry))))
+        r (now (shares .exit)) (now (segments .exit)) (now (line .exit)) (now (out .entry)) (now (out .exit))) ⌝ }
 {
     let mut planner = p;
     let mut kept = len;

@@ -15,9 +15,10 @@ use Rattle.rules.specs.Sound.{Each, Columns, every, eachTask, eachSlice, lawful
 use Rattle.rules.specs.Words.{rowsOf, slicesOf}
 use Rattle.rows.specs.Row.{sharesFit, owedIn, hitsIn}
 use Rattle.rules.proofs.Floor.{by-lt, by-eq, by-bool}
-use Rattle.sound.specs.Lent.{usedOf, taskTest, tableAt, isSoundAt}
-use Rattle.sound.specs.Due.{duesOf, ratesOf, within, rowTest, sliceCheck, allHits, planTest, scalarsTest}
-use Rattle.sound.proofs.Tests.{same-bool, cross}
+use Rattle.rules.specs.Held.{usedOf, tableAt, isSoundAt}
+use Rattle.slots.specs.Tests.{taskTest, duesOf, ratesOf}
+use Rattle.sound.specs.Due.{within, rowTest, sliceCheck, allHits, planTest, scalarsTest}
+use Rattle.slots.proofs.Tests.{same-bool, cross}
 use Rattle.rules.proofs.Sound.{every-to, every-from}
 use Rattle.sound.proofs.Near.{AllNear, tasks-near, owed-all, owed-from, hits-from, deadline-soon, shares-from}
 use Rattle.sound.proofs.Ends.{jobs, jobs-left, jobs-none, ended-all, hits-ended}

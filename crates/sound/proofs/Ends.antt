@@ -15,7 +15,8 @@ use Rattle.rules.specs.Slices.{isEnd}
 use Rattle.rules.specs.Sound.{Each, Rises, eachTask, eachSlice}
 use Rattle.rules.proofs.Floor.{by-lt, by-eq, by-bool}
 use Rattle.rows.specs.Row.{hitsIn}
-use Rattle.sound.specs.Due.{duesOf, within, sliceCheck, sliceHits, allHits}
+use Rattle.slots.specs.Tests.{duesOf}
+use Rattle.sound.specs.Due.{within, sliceCheck, sliceHits, allHits}
 use Rattle.rules.proofs.Sound.{or-to}
 use Rattle.sound.proofs.Near.{AllNear, eqb-from}
 

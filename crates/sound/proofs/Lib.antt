@@ -1,8 +1,4 @@
-pub mod Tests
-pub mod Rate
-pub mod Bits
 pub mod Dues
-pub mod Slots
 pub mod Passed
 pub mod Near
 pub mod Ends

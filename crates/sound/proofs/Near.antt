@@ -12,9 +12,9 @@ use Rattle.rules.specs.declared.Task.{Task}
 use Rattle.rules.specs.Station.{grains, free, inUse, pending, rates}
 use Rattle.rules.specs.Sound.{every, eachTask, eachShare, lawfulTest, inTimeTest, unusedTest, shareTest, isDeadline, owed}
 use Rattle.rules.proofs.Floor.{by-lt, by-eq, by-bool}
-use Rattle.sound.specs.Lent.{taskTest}
+use Rattle.slots.specs.Tests.{taskTest}
 use Rattle.rows.specs.Row.{shareFits, sharesFit, owedIn, hitsIn}
-use Rattle.sound.specs.Due.{dueFrom, duesOf, ratesOf}
+use Rattle.slots.specs.Tests.{dueFrom, duesOf, ratesOf}
 use Rattle.rules.proofs.Sound.{every-to, or-to, then-to}
 
 pub record Near (start : ℕ) (k : Task) : Type 0 where

@@ -15,7 +15,7 @@ use Rattle.rules.specs.Words.{rowsOf, rowAt, slicesOf}
 use Rattle.rows.proofs.Folds.{sum-next, sum-done}
 use Rattle.table.proofs.Rowed.{length-rowsOf}
 use Rattle.sound.specs.Due.{sliceAt, sliceHits, allHits, within, rowTest, sliceCheck}
-use Rattle.sound.proofs.Tests.{sum-zero}
+use Rattle.slots.proofs.Tests.{sum-zero}
 
 -- the slices from boundary k on, `count` in all
 unfoldable pub slicesFrom : ℕ → ℕ → List ℕ → List ℕ → List Slice

@@ -1,26 +1,33 @@
--- Deadlines counted from the plan start, and rates, side by side as lists of 64 numbers.
+-- What the check asks of all slices, beside deadlines counted from the plan start and rates, 64 numbers each.
+use mathlib.Core.Path.{_≡_}
 use mathlib.Core.Bool.{Bool, cond, _&&_, _||_}
 use mathlib.Core.List.{List, [], _∷_}
-use Prim.Native.Nat.{ℕ, _+_, _-_, _*_, _%_}
+use Prim.Native.Nat.{ℕ, _+_, _-_, _*_, _≤_}
 use lib.Dec.{leb, ltb, eqb}
-use lib.ListN.{take, drop}
-use Rattle.rules.specs.declared.Task.{Task}
+use lib.ListN.{length, take, drop}
 use Rattle.rules.specs.Station.{Slice, grains, lastTick, longestPeriod, mostCores, slotCount, rowCount, shareWords, sum}
 use Rattle.rules.specs.Sound.{every, eachSlice}
 use Rattle.rules.specs.Words.{rowsOf, slicesOf}
 use Rattle.rows.specs.Row.{sharesFit, owedIn, hitsIn}
 
--- a deadline in ticks after the plan start, or 0 where it is not after it, in 32 bits: a sound job is due within a period
-unfoldable pub dueFrom : ℕ → ℕ → ℕ
-dueFrom start deadline = (deadline - start) % 4294967296
+-- deadlines and rates side by side, one of each for each slot
+pub record Listed (due rates : List ℕ) : Type 0 where
+  pub due-long : length due ≡ slotCount
+  pub rates-long : length rates ≡ slotCount
 
-unfoldable pub duesOf : ℕ → List Task → List ℕ
-duesOf start [] = []
-duesOf start (k ∷ ks) = dueFrom start (k .deadline) ∷ duesOf start ks
+-- and beside them the share table, where the rates together are small
+pub record Beside (due rates words : List ℕ) : Type 0 where
+  pub listed : Listed due rates
+  pub light : sum rates ≤ 4294967295
+  pub long : shareWords ≤ length words
 
-unfoldable pub ratesOf : List Task → List ℕ
-ratesOf [] = []
-ratesOf (k ∷ ks) = k .rate ∷ ratesOf ks
+-- what is asked of the slices has what it needs: cores and boundaries in range
+pub record Planning (cores count : ℕ) (due rates ends words : List ℕ) : Type 0 where
+  pub few-cores : cores ≤ mostCores
+  pub few-rows : count ≤ rowCount
+  pub listed : Listed due rates
+  pub bounds : length ends ≡ rowCount
+  pub long : shareWords ≤ length words
 
 -- a slice from lo to `end` that ends within the longest period after the plan start and is no longer than it. In a sound table
 -- each end is a deadline and no slice begins before the plan start, so only the first test says something; the others bound the rest

@@ -1,24 +1,31 @@
-use crate::GRAINS;
-use crate::LONGEST_PERIOD;
-use crate::task::since;
 use rows::look::RowFacts;
 use rows::word::narrow;
-use table::ROWS;
+use rules::GRAINS;
+use rules::LONGEST_PERIOD;
+use rules::ROWS;
+use slots::test::since;
 use table::row::row_look;
 ghost use mathlib.Core.Path.{_≡_};
 ghost use mathlib.Core.Bool.{_&&_};
 ghost use Prim.Native.Nat.{_+_, _≤_, _<_};
 ghost use lib.Dec.{eqb};
 ghost use lib.ListN.{length, take, drop};
-ghost use Rattle.rules.specs.Station.{longestPeriod, slotCount, rowCount, shareWords, sum};
+ghost use Rattle.rules.specs.Station.{longestPeriod, slotCount, rowCount, sum};
 ghost use Rattle.rules.specs.Sound.{eachSlice};
 ghost use Rattle.rules.specs.Words.{rowsOf, rowAt, slicesOf};
-ghost use Rattle.sound.specs.Due.{sliceCheck, sliceHits, allHits, sliceAt, rowTest};
+ghost use Rattle.sound.specs.Due.{Beside, sliceCheck, sliceHits, allHits, sliceAt, rowTest};
 
 // Whether slices are sound, and how many jobs are due at their ends.
 pub struct SliceFacts {
     pub ok: bool,
     pub hits: u64,
+}
+
+// The time of a slice, and the plan start.
+pub struct Span {
+    pub start: u64,
+    pub from: u64,
+    pub end: u64,
 }
 
 // What one pass over the row gave, for a slice that is `long` ticks long.
@@ -29,21 +36,17 @@ fn row_fits(row: RowFacts, long: u64) -> bool
     row.fits && row.sum <= long * row.owed && 0 < row.hits
 }
 
-// Row k, whose slice runs from lo to end. Any ends may come: those that no sound table has are answered before anything is computed.
-fn one_slice(
-    shares: &[u32],
-    k: usize,
-    due: &[u32],
-    rates: &[u32],
-    start: u64,
-    lo: u64,
-    end: u64,
-) -> SliceFacts
-    requires { ⌜ (shareWords ≤ length (now shares)) × (k < rowCount) × (length (now due) ≡ slotCount) × (length (now rates) ≡ slotCount) × (sum (now rates) ≤ 4294967295) ⌝ }
-    ensures { λ r. ⌜ (r .ok ≡ sliceCheck start (now (due .entry)) (now (rates .entry)) lo (sliceAt end (rowAt k (now (shares .entry))))) × (r .hits ≡ sliceHits start (now (due .entry)) lo (sliceAt end (rowAt k (now (shares .entry))))) × (r .hits ≤ slotCount) ⌝ }
+// Row k and the time of its slice. Any times may come: those that no sound table has are answered before anything is computed.
+fn one_slice(shares: &[u32], k: usize, due: &[u32], rates: &[u32], span: Span) -> SliceFacts
+    requires { ⌜ Beside (now due) (now rates) (now shares) × (k < rowCount) ⌝ }
+    ensures { λ r. ⌜ (r .ok ≡ sliceCheck (span .start) (now (due .entry)) (now (rates .entry)) (span .from)
+        (sliceAt (span .end) (rowAt k (now (shares .entry)))))
+        × (r .hits ≡ sliceHits (span .start) (now (due .entry)) (span .from)
+        (sliceAt (span .end) (rowAt k (now (shares .entry)))))
+        × (r .hits ≤ slotCount) ⌝ }
 {
-    let at = since(start, end);
-    let long = since(lo, end);
+    let at = since(span.start, span.end);
+    let long = since(span.from, span.end);
     if long == 0 || LONGEST_PERIOD < at || LONGEST_PERIOD < long {
         return SliceFacts { ok: false, hits: 0 };
     }
@@ -76,15 +79,19 @@ pub fn slices_sound(
     count: usize,
     start: u64,
 ) -> SliceFacts
-    requires { ⌜ (shareWords ≤ length (now shares)) × (length (now due) ≡ slotCount) × (length (now rates) ≡ slotCount) × (sum (now rates) ≤ 4294967295) × (length (now ends) ≡ rowCount) × (count ≤ rowCount) ⌝ }
-    ensures { λ r. ⌜ (r .ok ≡ eachSlice (sliceCheck start (now (due .entry)) (now (rates .entry))) start (slicesOf (take count (now (ends .entry))) (rowsOf rowCount (now (shares .entry))))) × (r .hits ≡ allHits start (now (due .entry)) start (slicesOf (take count (now (ends .entry))) (rowsOf rowCount (now (shares .entry))))) ⌝ }
+    requires { ⌜ Beside (now due) (now rates) (now shares) × (length (now ends) ≡ rowCount) × (count ≤ rowCount) ⌝ }
+    ensures { λ r. ⌜ (r .ok ≡ eachSlice (sliceCheck start (now (due .entry)) (now (rates .entry))) start
+        (slicesOf (take count (now (ends .entry))) (rowsOf rowCount (now (shares .entry)))))
+        × (r .hits ≡ allHits start (now (due .entry)) start
+        (slicesOf (take count (now (ends .entry))) (rowsOf rowCount (now (shares .entry))))) ⌝ }
 {
     let mut found = SliceFacts { ok: true, hits: 0 };
-    let mut lo = start;
+    let mut from = start;
     for k in 0..count {
         let end = ends[k];
-        found = with_slice(found, one_slice(shares, k, due, rates, start, lo, end));
-        lo = end;
+        let span = Span { start, from, end };
+        found = with_slice(found, one_slice(shares, k, due, rates, span));
+        from = end;
     }
     found
 }

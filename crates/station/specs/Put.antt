@@ -1,26 +1,22 @@
--- What is written for the planner's own answers, case by case.
-use mathlib.Core.List.{List, [], _∷_, _++_}
+-- An answer by its case: done, its value and count; refused, the number, 0 and 0. For an answer of a call that is what it reads as.
 use Prim.Native.Nat.{ℕ}
-use lib.ListN.{drop}
 use Rattle.rules.specs.Station.{slotCount}
-use Rattle.rules.specs.Words.{written}
-use Rattle.planner.specs.declared.Planner.{Planner}
-use Rattle.planner.specs.declared.Answer.{Answer}
-use Rattle.planner.specs.declared.Answer.the-variants.{Done, Refused}
-use Rattle.planner.specs.declared.Holder.{Holder}
-use Rattle.planner.specs.declared.Holder.the-variants.{Held, IdleUntil, Idle, Refused as Refused′}
-use Rattle.words.specs.Area.{stateWords, wordsFor}
-use Rattle.station.specs.Result.{resultWords}
-use Rattle.station.specs.Station.{Lent, lent}
+use Rattle.rules.specs.Calls.{Answer as Handed}
+use Rattle.wrap.specs.declared.look.Holder.{Holder}
+use Rattle.wrap.specs.declared.look.Holder.the-variants.{Held, IdleUntil, Idle, Refused as Refused′}
+use Rattle.calls.specs.declared.Answer.{Answer}
+use Rattle.calls.specs.declared.Answer.the-variants.{Done, Refused}
 
--- A call's answer: done, the planner's words and number, value and count are written; refused, the number, 0 and 0.
-unfoldable pub putBy : Answer → Planner → List ℕ → List ℕ → List ℕ → List ℕ → Lent
-putBy (Done value count) p state shares segments result = lent (wordsFor p ++ drop stateWords state) shares segments (0 ∷ (value ∷ (count ∷ drop resultWords result))) 0
-putBy (Refused n) p state shares segments result = lent state shares segments (n ∷ (0 ∷ (0 ∷ drop resultWords result))) n
+abbrev pub handed : ℕ → ℕ → ℕ → Handed
+handed number value count = record { number = number; value = value; count = count }
 
--- Holder's answer: the words of its three cases, or a refusal's number, 0 and 0.
-unfoldable pub toldIn : Holder → List ℕ → List ℕ → List ℕ → Lent
-toldIn (Held slot until) state shares result = lent state shares [] (0 ∷ (slot ∷ (until ∷ drop resultWords result))) 0
-toldIn (IdleUntil grain) state shares result = lent state shares [] (0 ∷ (slotCount ∷ (grain ∷ drop resultWords result))) 0
-toldIn Idle state shares result = lent state shares [] (0 ∷ (slotCount ∷ (0 ∷ drop resultWords result))) 0
-toldIn (Refused′ n) state shares result = lent state shares [] (n ∷ (0 ∷ (0 ∷ drop resultWords result))) n
+unfoldable pub plain : Answer → Handed
+plain (Done value count) = handed 0 value count
+plain (Refused n) = handed n 0 0
+
+-- holder's: the slot and the grain; 64 for idle, with the grain at which slice 0 ends, or 0
+unfoldable pub plainHolder : Holder → Handed
+plainHolder (Held slot until) = handed 0 slot until
+plainHolder (IdleUntil grain) = handed 0 slotCount grain
+plainHolder Idle = handed 0 slotCount 0
+plainHolder (Refused′ n) = handed n 0 0

@@ -7,9 +7,10 @@ use lib.ListN.{length, drop}
 use Rattle.rules.specs.Station.{slotCount}
 use Rattle.rules.specs.Advance.{Holding, held, idleUntil, idle}
 use Rattle.rules.specs.Calls.{Answer, Call, refusal}
-use Rattle.planner.specs.Held.{Left, blankPlanner, called, opening}
-use Rattle.planner.specs.Holding.{told}
-use Rattle.words.specs.Area.{stateWords, plannerIn, wordsFor}
+use Rattle.wrap.specs.Holding.{Told}
+use Rattle.calls.specs.Called.{Left, called, opening}
+use Rattle.calls.specs.Holding.{told}
+use Rattle.station.specs.Area.{stateWords, plannerIn, wordsFor}
 use Rattle.station.specs.Result.{resultWords, answered}
 
 -- What a call leaves: the four areas lent, and the number that it answers.
@@ -23,27 +24,24 @@ pub record Lent : Type 0 where
 abbrev pub lent : List ℕ → List ℕ → List ℕ → List ℕ → ℕ → Lent
 lent state shares segments result number = record { state = state; shares = shares; segments = segments; result = result; number = number }
 
--- By the refusal's number: a call that is done leaves its planner, its words and its answer; a refused one only its answer.
-unfoldable pub settled : ℕ → Left → List ℕ → List ℕ → List ℕ → List ℕ → Lent
-settled zero l state shares segments result = lent (wordsFor (l .planner) ++ drop stateWords state) (l .words) (l .buffer) (answered (l .answer) result) 0
-settled (suc n) l state shares segments result = lent state shares segments (answered (refusal (suc n)) result) (suc n)
-
 -- First the areas' lengths: a result area that is too short is left as it is, and a state area that is too short is refusal 1.
 unfoldable pub lengthsFirst : List ℕ → List ℕ → List ℕ → List ℕ → Lent → Lent
 lengthsFirst state shares segments result then =
     cond (ltb (length result) resultWords) (lent state shares segments result 1)
     (cond (ltb (length state) stateWords) (lent state shares segments (answered (refusal 1) result) 1) then)
 
+-- What the call leaves, with its planner in the state area; the words past it stay.
 unfoldable pub leftIn : Left → List ℕ → List ℕ → List ℕ → List ℕ → Lent
-leftIn l state shares segments result = lengthsFirst state shares segments result (settled (l .answer .number) l state shares segments result)
+leftIn l state shares segments result =
+    lengthsFirst state shares segments result (lent (wordsFor (l .planner) ++ drop stateWords state) (l .words) (l .buffer) (answered (l .answer) result) (l .answer .number))
 
--- Declare, withdraw, release and advance: what the planner's call leaves, on the planner that the state area holds.
+-- Declare, withdraw, release and advance, on the planner that the state area holds.
 unfoldable pub stationed : List ℕ → List ℕ → List ℕ → List ℕ → Call → Lent
 stationed state shares segments result call = leftIn (called (plannerIn state) shares segments call) state shares segments result
 
--- Open: does not look at what the state area holds.
+-- Open: what the state area holds is not asked for, and stays where open is refused.
 unfoldable pub openedIn : List ℕ → List ℕ → List ℕ → ℕ → Lent
-openedIn state shares result cores = leftIn (opening blankPlanner shares cores) state shares [] result
+openedIn state shares result cores = leftIn (opening (plannerIn state) shares cores) state shares [] result
 
 -- Holder's three cases as value and count: the slot and the grain at which its segment ends; 64 for idle, with the grain at which slice 0
 -- ends, or 0 without a limit.

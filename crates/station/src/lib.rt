@@ -1,36 +1,23 @@
 // The planner for a station in C or Rust: six calls on areas of words that the station lends. Each answers a refusal's number, 0 where the
-// call is done, and writes number, value and count into the result area. What a state area holds, and what a call stores there, is in `words`.
-mod write; // write.rt: an answer into a result area
+// call is done, and writes number, value and count into the result area. A call loads the five numbers of the state area, makes the call of
+// `calls` on the lists where they lie, and stores the numbers.
+mod write; // write.rt: the numbers of a state area, and an answer into a result area
 
+use crate::write::LISTS_FROM;
 use crate::write::RESULT_WORDS;
+use crate::write::STATE_WORDS;
+use crate::write::put_state;
+use crate::write::state_in;
 use crate::write::tell;
+use crate::write::tell_answer;
 use crate::write::tell_holder;
-use planner::look::holder_in;
-use steps::reason::open_reason;
-use table::zero::clear_table;
-use words::advance::put_advanced;
-use words::area::CLOCK;
-use words::area::CORES;
-use words::area::COUNT;
-use words::area::ENDS_FROM;
-use words::area::START;
-use words::area::STATE_WORDS;
-use words::check::is_sound;
-use words::fresh::put_opened;
-use words::number::advance_number;
-use words::number::declare_number;
-use words::number::release_number;
-use words::number::withdraw_number;
-use words::release::put_released;
-use words::slot::put_declared;
-use words::slot::put_withdrawn;
 ghost use mathlib.Core.Path.{_≡_};
 ghost use mathlib.Core.List.{[]};
 ghost use lib.ListN.{length};
 ghost use Rattle.rules.specs.Calls.{declare, withdraw, release, advance};
 ghost use Rattle.station.specs.Station.{lent, stationed, openedIn, holderIn};
 
-// Open: does not look at what the state area holds. Value: cores.
+// Open: does not ask what the state area holds. Value: cores.
 #[no_mangle]
 pub extern "C" fn killaruna_open(
     state: &mut [u64],
@@ -38,7 +25,8 @@ pub extern "C" fn killaruna_open(
     cores: u64,
     result: &mut [u64],
 ) -> u64
-    ensures { λ r. ⌜ lent (now (state .exit)) (now (shares .exit)) [] (now (result .exit)) r ≡ openedIn (now (state .entry)) (now (shares .entry)) (now (result .entry)) cores ⌝ }
+    ensures { λ r. ⌜ lent (now (state .exit)) (now (shares .exit)) [] (now (result .exit)) r
+        ≡ openedIn (now (state .entry)) (now (shares .entry)) (now (result .entry)) cores ⌝ }
 {
     if result.len() < RESULT_WORDS {
         return 1;
@@ -46,13 +34,11 @@ pub extern "C" fn killaruna_open(
     if state.len() < STATE_WORDS {
         return tell(result, 1, 0, 0);
     }
-    let number = open_reason(shares.len(), cores);
-    if number != 0 {
-        return tell(result, number, 0, 0);
-    }
-    clear_table(shares);
-    put_opened(state, cores);
-    tell(result, 0, cores, 0)
+    let numbers = state_in(state);
+    let moved = calls::open::open(numbers, &mut state[LISTS_FROM..STATE_WORDS], shares, cores);
+    put_state(state, moved.state);
+    let answer = moved.answer;
+    tell_answer(answer, result)
 }
 
 // Declare. Value: the slot.
@@ -64,17 +50,26 @@ pub extern "C" fn killaruna_declare(
     cost: u64,
     result: &mut [u64],
 ) -> u64
-    ensures { λ r. ⌜ lent (now (state .exit)) (now (shares .entry)) [] (now (result .exit)) r ≡ stationed (now (state .entry)) (now (shares .entry)) [] (now (result .entry)) (declare period cost) ⌝ }
+    ensures { λ r. ⌜ lent (now (state .exit)) (now (shares .entry)) [] (now (result .exit)) r
+        ≡ stationed (now (state .entry)) (now (shares .entry)) [] (now (result .entry)) (declare period cost) ⌝ }
 {
     if result.len() < RESULT_WORDS {
         return 1;
     }
-    let number = declare_number(state, shares, period, cost);
-    if number != 0 {
-        return tell(result, number, 0, 0);
+    if state.len() < STATE_WORDS {
+        return tell(result, 1, 0, 0);
     }
-    let slot = put_declared(state, period, cost);
-    tell(result, 0, slot, 0)
+    let numbers = state_in(state);
+    let moved = calls::tasks::declare(
+        numbers,
+        &mut state[LISTS_FROM..STATE_WORDS],
+        shares,
+        period,
+        cost,
+    );
+    put_state(state, moved.state);
+    let answer = moved.answer;
+    tell_answer(answer, result)
 }
 
 // Withdraw. Value 0.
@@ -85,17 +80,20 @@ pub extern "C" fn killaruna_withdraw(
     slot: u64,
     result: &mut [u64],
 ) -> u64
-    ensures { λ r. ⌜ lent (now (state .exit)) (now (shares .entry)) [] (now (result .exit)) r ≡ stationed (now (state .entry)) (now (shares .entry)) [] (now (result .entry)) (withdraw slot) ⌝ }
+    ensures { λ r. ⌜ lent (now (state .exit)) (now (shares .entry)) [] (now (result .exit)) r
+        ≡ stationed (now (state .entry)) (now (shares .entry)) [] (now (result .entry)) (withdraw slot) ⌝ }
 {
     if result.len() < RESULT_WORDS {
         return 1;
     }
-    let number = withdraw_number(state, shares, slot);
-    if number != 0 {
-        return tell(result, number, 0, 0);
+    if state.len() < STATE_WORDS {
+        return tell(result, 1, 0, 0);
     }
-    put_withdrawn(state, slot as usize);
-    tell(result, 0, 0, 0)
+    let numbers = state_in(state);
+    let moved = calls::tasks::withdraw(numbers, &mut state[LISTS_FROM..STATE_WORDS], shares, slot);
+    put_state(state, moved.state);
+    let answer = moved.answer;
+    tell_answer(answer, result)
 }
 
 // Release. Value: the deadline.
@@ -106,17 +104,20 @@ pub extern "C" fn killaruna_release(
     slot: u64,
     result: &mut [u64],
 ) -> u64
-    ensures { λ r. ⌜ lent (now (state .exit)) (now (shares .exit)) [] (now (result .exit)) r ≡ stationed (now (state .entry)) (now (shares .entry)) [] (now (result .entry)) (release slot) ⌝ }
+    ensures { λ r. ⌜ lent (now (state .exit)) (now (shares .exit)) [] (now (result .exit)) r
+        ≡ stationed (now (state .entry)) (now (shares .entry)) [] (now (result .entry)) (release slot) ⌝ }
 {
     if result.len() < RESULT_WORDS {
         return 1;
     }
-    let number = release_number(state, shares, slot);
-    if number != 0 {
-        return tell(result, number, 0, 0);
+    if state.len() < STATE_WORDS {
+        return tell(result, 1, 0, 0);
     }
-    let d = put_released(state, shares, slot as usize);
-    tell(result, 0, d, 0)
+    let numbers = state_in(state);
+    let moved = calls::release::release(numbers, &mut state[LISTS_FROM..STATE_WORDS], shares, slot);
+    put_state(state, moved.state);
+    let answer = moved.answer;
+    tell_answer(answer, result)
 }
 
 // Advance. Value: the tick reached, and the count of segments.
@@ -128,17 +129,27 @@ pub extern "C" fn killaruna_advance(
     segments: &mut [u64],
     result: &mut [u64],
 ) -> u64
-    ensures { λ r. ⌜ lent (now (state .exit)) (now (shares .exit)) (now (segments .exit)) (now (result .exit)) r ≡ stationed (now (state .entry)) (now (shares .entry)) (now (segments .entry)) (now (result .entry)) (advance tick (length (now (segments .entry)))) ⌝ }
+    ensures { λ r. ⌜ lent (now (state .exit)) (now (shares .exit)) (now (segments .exit)) (now (result .exit)) r
+        ≡ stationed (now (state .entry)) (now (shares .entry)) (now (segments .entry)) (now (result .entry))
+        (advance tick (length (now (segments .entry)))) ⌝ }
 {
     if result.len() < RESULT_WORDS {
         return 1;
     }
-    let number = advance_number(state, shares, tick, segments.len());
-    if number != 0 {
-        return tell(result, number, 0, 0);
+    if state.len() < STATE_WORDS {
+        return tell(result, 1, 0, 0);
     }
-    let count = put_advanced(state, shares, tick, segments);
-    tell(result, 0, state[CLOCK], count)
+    let numbers = state_in(state);
+    let moved = calls::advance::advance(
+        numbers,
+        &mut state[LISTS_FROM..STATE_WORDS],
+        shares,
+        tick,
+        segments,
+    );
+    put_state(state, moved.state);
+    let answer = moved.answer;
+    tell_answer(answer, result)
 }
 
 // Holder: number, slot (64: idle) and grain (0: without a limit).
@@ -149,22 +160,16 @@ pub extern "C" fn killaruna_holder(
     core: u64,
     result: &mut [u64],
 ) -> u64
-    ensures { λ r. ⌜ lent (now (state .entry)) (now (shares .entry)) [] (now (result .exit)) r ≡ holderIn (now (state .entry)) (now (shares .entry)) (now (result .entry)) core ⌝ }
+    ensures { λ r. ⌜ lent (now (state .entry)) (now (shares .entry)) [] (now (result .exit)) r
+        ≡ holderIn (now (state .entry)) (now (shares .entry)) (now (result .entry)) core ⌝ }
 {
     if result.len() < RESULT_WORDS {
         return 1;
     }
-    if !is_sound(state, shares) {
+    if state.len() < STATE_WORDS {
         return tell(result, 1, 0, 0);
     }
-    let holder = holder_in(
-        state[CORES],
-        state[COUNT],
-        state[START],
-        state[CLOCK],
-        state[ENDS_FROM],
-        shares,
-        core,
-    );
+    let numbers = state_in(state);
+    let holder = calls::holder::holder(numbers, &state[LISTS_FROM..STATE_WORDS], shares, core);
     tell_holder(holder, result)
 }

@@ -11,7 +11,7 @@ use lib.Seq.{take-at, drop-at, take-add, drop-drop, length-take-le, take-take, s
 use borrow.Rule.Slice.PartMut.{putMid, same-len-mid}
 use Rattle.rules.specs.Slices.{less}
 use Rattle.rules.specs.Words.{rowsOf, rowAt, flat, Rowed}
-use Rattle.rows.proofs.Lessened.{less-length}
+use Rattle.rules.proofs.Lessened.{less-length}
 
 -- the words from n on of the first n + m
 pub drop-take : (n m : ℕ) (w : List ℕ) → n ≤ length w → drop n (take (n + m) w) ≡ take m (drop n w)

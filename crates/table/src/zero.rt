@@ -1,7 +1,7 @@
-use crate::ROWS;
-use crate::WORDS;
 use crate::row::row_clear;
-use rows::SLOTS;
+use rules::ROWS;
+use rules::SHARE_WORDS;
+use rules::SLOTS;
 ghost use mathlib.Core.Path.{_≡_};
 ghost use mathlib.Core.List.{[]};
 ghost use Prim.Native.Nat.{_*_, _≤_};
@@ -12,7 +12,8 @@ ghost use Rattle.rules.specs.Words.{Rowed, rowsIn};
 
 // Whether all rows from n on are zero: their words, in four parts.
 pub fn rows_zero(shares: &[u32], n: usize) -> bool
-    requires { ⌜ (shareWords ≤ length (now shares)) × (n ≤ rowCount) ⌝ }
+    requires { ⌜ shareWords ≤ length (now shares) ⌝ }
+    requires { ⌜ n ≤ rowCount ⌝ }
     ensures { λ r. ⌜ r ≡ eqb (sum (drop (slotCount * n) (take shareWords (now (shares .entry))))) 0 ⌝ }
 {
     let quarter = SLOTS / 4 * (ROWS - n);
@@ -20,11 +21,11 @@ pub fn rows_zero(shares: &[u32], n: usize) -> bool
     let b = a + quarter;
     let c = b + quarter;
     let d = c + quarter;
-    rows::sums::four_zero(
+    rows::zero::four_zero(
         &shares[a..b],
         &shares[b..c],
         &shares[c..d],
-        &shares[d..WORDS],
+        &shares[d..SHARE_WORDS],
     )
 }
 

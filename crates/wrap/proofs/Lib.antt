@@ -1,3 +1,3 @@
-pub mod Line
 pub mod Shown
 pub mod Holds
+pub mod Looking

@@ -5,6 +5,7 @@ use Prim.Native.Nat.{ℕ, _<_, _≤_}
 use lib.ListN.{length, getD}
 use Rattle.rules.specs.Calls.{segmentWords}
 use Rattle.rules.specs.Station.{grains, lastTick, longestPeriod, slotCount}
+use Rattle.wrap.specs.declared.segments.Window.{Window}
 
 -- Slice 0, of T grains, and its row. A slice is no longer than a period, and "each share is at most 1,000 times its slice's length".
 pub record Laid (T : ℕ) (row : List ℕ) : Type 0 where
@@ -13,11 +14,11 @@ pub record Laid (T : ℕ) (row : List ℕ) : Type 0 where
   pub small : (i : ℕ) → getD row i 0 ≤ T
   pub long : length row ≡ slotCount
 
--- A window on slice 0, of T grains: from where to where, in grains after the plan start, which is at the grain base.
-pub record Shown (base from to T : ℕ) : Type 0 where
-  pub order : from ≤ to
-  pub within : to ≤ T
-  pub early : base ≤ grains lastTick
+-- A window on slice 0, of T grains.
+pub record Shown (T : ℕ) (w : Window) : Type 0 where
+  pub order : w .from ≤ w .to
+  pub within : w .to ≤ T
+  pub early : w .base ≤ grains lastTick
 
 -- "At most 79 exist."
 abbrev pub mostSegments : ℕ

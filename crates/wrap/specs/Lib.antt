@@ -1,4 +1,5 @@
 pub mod Asked
-pub mod Line
 pub mod Shown
 pub mod Found
+pub mod Front
+pub mod Holding

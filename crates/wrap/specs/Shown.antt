@@ -19,11 +19,15 @@ windowOf w = record { base = w .base; from = w .from; to = w .to }
 
 -- the window lies on a slice that is no longer than a period
 abbrev pub Looks : Looked → Type 0
-Looks w = Shown (w .base) (w .from) (w .to) (grains longestPeriod)
+Looks w = Shown (grains longestPeriod) w
 
 -- what a window shows of the wrap of a row, in slice 0 of T grains
 unfoldable pub shown : ℕ → ℕ → ℕ → ℕ → List ℕ → List Segment
 shown base from to T row = clipped (record { base = base; from = from; to = to }) (wrap T 0 0 row)
+
+-- by the code's window
+abbrev pub shownIn : Looked → ℕ → List ℕ → List Segment
+shownIn w T row = shown (w .base) (w .from) (w .to) T row
 
 -- what it shows of one slot, whose share s begins at e
 unfoldable pub slotShown : Window → ℕ → ℕ → ℕ → ℕ → List Segment

@@ -1,6 +1,6 @@
-use rows::SLOTS;
 use rows::word::smaller;
 use rows::word::wide;
+use rules::SLOTS;
 ghost use mathlib.Core.Path.{_≡_};
 ghost use Prim.Native.Nat.{ℕ, min, _-_, _<_, _≤_};
 ghost use Rattle.rules.specs.Station.{mostCores};
@@ -15,8 +15,9 @@ pub enum Found {
     Nobody,
 }
 
-// The slot whose share ends at `end` holds the core whose stretch begins at `begin` as far as its share or the stretch goes.
-fn held(slot: usize, end: u64, begin: u64, slice: u64) -> Found
+// The slot whose share ends at `end` holds the core whose stretch begins at `begin` as far as its share or the stretch
+// goes.
+fn found_in(slot: usize, end: u64, begin: u64, slice: u64) -> Found
     requires { ⌜ begin ≤ end ⌝ }
     ensures { λ r. ⌜ r ≡ Found.Held slot (min (end - begin) slice) ⌝ }
 {
@@ -25,8 +26,11 @@ fn held(slot: usize, end: u64, begin: u64, slice: u64) -> Found
 
 // Who holds a core, `grain` grains after the plan start: the first slot whose share ends past that place on the line.
 pub fn holder_at(row: &[u32], slice: u64, core: u64, grain: u64) -> Found
-    requires { ⌜ Laid slice (now row) × (grain < slice) × (core < mostCores) ⌝ }
-    ensures { λ r. ⌜ ((base : ℕ) (none : Holding) → holdingOf base none r ≡ heldIn base core grain none (wrap slice 0 0 (now (row .entry)))) ⌝ }
+    requires { ⌜ Laid slice (now row) ⌝ }
+    requires { ⌜ grain < slice ⌝ }
+    requires { ⌜ core < mostCores ⌝ }
+    ensures { λ r. ⌜ ((base : ℕ) (none : Holding) →
+        holdingOf base none r ≡ heldIn base core grain none (wrap slice 0 0 (now (row .entry)))) ⌝ }
 {
     let begin = core * slice;
     let place = begin + grain;
@@ -34,7 +38,7 @@ pub fn holder_at(row: &[u32], slice: u64, core: u64, grain: u64) -> Found
     for slot in 0..SLOTS {
         end += wide(row[slot]);
         if place < end {
-            return held(slot, end, begin, slice);
+            return found_in(slot, end, begin, slice);
         }
     }
     Found::Nobody

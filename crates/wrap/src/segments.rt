@@ -1,8 +1,8 @@
-use crate::place::Place;
-use crate::place::beyond;
-use rows::SLOTS;
+use line::place::Place;
+use line::place::beyond;
 use rows::word::smaller;
 use rows::word::wide;
+use rules::SLOTS;
 ghost use mathlib.Core.Path.{_≡_};
 ghost use mathlib.Core.List.{[], _∷_};
 ghost use Prim.Native.Nat.{max, _-_, _+_, _*_, _≤_};
@@ -11,9 +11,9 @@ ghost use Rattle.rules.specs.Station.{grains, longestPeriod, mostCores, sum};
 ghost use Rattle.rules.specs.Wrap.{onCore, onNext, kept, clip};
 ghost use Rattle.rules.specs.Words.{written};
 ghost use Rattle.rules.specs.Calls.{segmentWords};
+ghost use Rattle.line.specs.Line.{onLine, Step};
 ghost use Rattle.wrap.specs.Asked.{Laid, Shown, Room};
-ghost use Rattle.wrap.specs.Line.{onLine, Step};
-ghost use Rattle.wrap.specs.Shown.{Looks, segmentOf, windowOf, slotShown, shown, writtenFrom, Wrote};
+ghost use Rattle.wrap.specs.Shown.{Looks, segmentOf, windowOf, slotShown, shownIn, writtenFrom, Wrote};
 
 // A segment: the core, the slot that holds it, the first grain, and the grain after the last.
 pub struct Segment {
@@ -46,7 +46,8 @@ fn past(grain: u64, end: u64) -> u64
 // A slot's segment on the core where its stretch of the line begins.
 fn on_core(slot: usize, place: Place, share: u64, slice: u64) -> Segment
     requires { ⌜ Step slice place share ⌝ }
-    ensures { λ r. ⌜ (segmentOf r ≡ onCore slice slot (onLine slice place) share) × (r .first ≤ slice) ⌝ }
+    ensures { λ r. ⌜ segmentOf r ≡ onCore slice slot (onLine slice place) share ⌝ }
+    ensures { λ r. ⌜ r .first ≤ slice ⌝ }
 {
     Segment {
         core: place.core,
@@ -59,7 +60,8 @@ fn on_core(slot: usize, place: Place, share: u64, slice: u64) -> Segment
 // A slot's segment on the next core, where its stretch goes past the end of a core's.
 fn on_next(slot: usize, place: Place, share: u64, slice: u64) -> Segment
     requires { ⌜ Step slice place share ⌝ }
-    ensures { λ r. ⌜ (segmentOf r ≡ onNext slice slot (onLine slice place) share) × (r .first ≤ slice) ⌝ }
+    ensures { λ r. ⌜ segmentOf r ≡ onNext slice slot (onLine slice place) share ⌝ }
+    ensures { λ r. ⌜ r .first ≤ slice ⌝ }
 {
     Segment {
         core: place.core + 1,
@@ -71,7 +73,8 @@ fn on_next(slot: usize, place: Place, share: u64, slice: u64) -> Segment
 
 // A segment as far as it lies in the window, counted from grain 0.
 fn within(segment: Segment, window: Window) -> Segment
-    requires { ⌜ Looks window × (segment .first ≤ grains longestPeriod) ⌝ }
+    requires { ⌜ Looks window ⌝ }
+    requires { ⌜ segment .first ≤ grains longestPeriod ⌝ }
     ensures { λ r. ⌜ segmentOf r ≡ kept (windowOf window) (segmentOf segment) ⌝ }
 {
     Segment {
@@ -94,10 +97,14 @@ fn write(segment: Segment, buffer: &mut [u64], count: usize)
     buffer[at + 3] = segment.after;
 }
 
-// What the window shows of a segment is written after the first `count`. "Empty segments don't exist." Hands back the new count.
+// What the window shows of a segment is written after the first `count`. "Empty segments don't exist." Hands back the
+// new count.
 fn put(segment: Segment, window: Window, buffer: &mut [u64], count: usize) -> usize
-    requires { ⌜ Looks window × (segment .first ≤ grains longestPeriod) × Room (now buffer) count ⌝ }
-    ensures { λ r. ⌜ Wrote count (clip (windowOf window) (segmentOf segment)) (now (buffer .entry)) r (now (buffer .exit)) ⌝ }
+    requires { ⌜ Looks window ⌝ }
+    requires { ⌜ segment .first ≤ grains longestPeriod ⌝ }
+    requires { ⌜ Room (now buffer) count ⌝ }
+    ensures { λ r. ⌜ Wrote count (clip (windowOf window) (segmentOf segment)) (now (buffer .entry)) r
+        (now (buffer .exit)) ⌝ }
 {
     let seen = within(segment, window);
     if seen.first < seen.after {
@@ -118,24 +125,26 @@ fn lay(
     buffer: &mut [u64],
     count: usize,
 ) -> usize
-    requires { ⌜ Step slice place share × Looks window × Room (now buffer) (count + length (slotShown (windowOf window) slice slot (onLine slice place) share)) ⌝ }
-    ensures { λ r. ⌜ Wrote count (slotShown (windowOf window) slice slot (onLine slice place) share) (now (buffer .entry)) r (now (buffer .exit)) ⌝ }
+    requires { ⌜ Step slice place share ⌝ }
+    requires { ⌜ Looks window ⌝ }
+    requires { ⌜ Room (now buffer)
+        (count + length (slotShown (windowOf window) slice slot (onLine slice place) share)) ⌝ }
+    ensures { λ r. ⌜ Wrote count (slotShown (windowOf window) slice slot (onLine slice place) share)
+        (now (buffer .entry)) r (now (buffer .exit)) ⌝ }
 {
     let more = put(on_core(slot, place, share, slice), window, buffer, count);
     put(on_next(slot, place, share, slice), window, buffer, more)
 }
 
-// The segments from `from` to `to`, in grains after the plan start, which is at the grain `base`, written to the buffer in the
-// order along the line. Hands back their count.
-pub fn segments(row: &[u32], slice: u64, base: u64, from: u64, to: u64, buffer: &mut [u64]) -> usize
-    requires { ⌜ Laid slice (now row) × Shown base from to slice × (segmentWords ≤ length (now buffer)) × (sum (now row) ≤ mostCores * slice) ⌝ }
-    ensures { λ r. ⌜ (r ≡ length (shown base from to slice (now (row .entry)))) × (now (buffer .exit) ≡ written (shown base from to slice (now (row .entry))) (now (buffer .entry))) ⌝ }
+// The segments that a window shows, written to the buffer in the order along the line. Hands back their count.
+pub fn segments(row: &[u32], slice: u64, window: Window, buffer: &mut [u64]) -> usize
+    requires { ⌜ Laid slice (now row) ⌝ }
+    requires { ⌜ Shown slice window ⌝ }
+    requires { ⌜ segmentWords ≤ length (now buffer) ⌝ }
+    requires { ⌜ sum (now row) ≤ mostCores * slice ⌝ }
+    ensures { λ r. ⌜ r ≡ length (shownIn window slice (now (row .entry))) ⌝ }
+    ensures { λ _. ⌜ now (buffer .exit) ≡ written (shownIn window slice (now (row .entry))) (now (buffer .entry)) ⌝ }
 {
-    let window = Window {
-        base: base,
-        from: from,
-        to: to,
-    };
     let mut place = Place { core: 0, at: 0 };
     let mut count: usize = 0;
     for slot in 0..SLOTS {

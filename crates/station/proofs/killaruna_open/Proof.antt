@@ -1,23 +1,17 @@
--- `killaruna_open` leaves what `openedIn` says: a result area that is too short, a state area that is too short, a reason's number, or a fresh
--- table; nothing of the state area is looked at.
-use mathlib.Core.List.{[]}
-use mathlib.Core.Path.{_≡_, sym, _∙_}
+-- `killaruna_open` leaves what `openedIn` says: a result area that is too short, a state area that is too short, or what the call leaves
+-- of the planner in the area.
+use mathlib.Core.Path.{_∙_}
 use native.Mathlib.Omega.{arith}
 use borrow.Author.Needs.{needs}
 use denote.Ref.{now}
-use lib.ListN.{length}
-use Rattle.rules.specs.Calls.{refused, openRefusals}
-use Rattle.planner.proofs.Opening.{open-room}
-use Rattle.planner.specs.Held.{blankPlanner}
+use mathlib.Core.List.{[]}
+use Rattle.rules.specs.Held.{planner}
+use Rattle.station.specs.Area.{plannerIn}
 use Rattle.station.specs.Station.{openedIn, leftIn}
-use Rattle.station.proofs.Lent.{open-refused-lent, open-done-lent}
-use Rattle.station.proofs.Stationed.{short-result, short-state}
+use Rattle.station.proofs.Stores.{area-back}
+use Rattle.station.proofs.Stationed.{short-result, short-state, lists-long, opened-is}
 use Rattle.station.proofs.killaruna_open.Statement.{statement}
 use Rattle.station.proofs.killaruna_open.Tie as tie
-
--- nothing refuses it
-free-to : (e : tie.Else3) → let at = e .before .before .before .before .before .before .before .args in refused (openRefusals (length (now (at .shares))) (at .cores)) ≡ 0
-free-to e = sym (e .before .open-reason .ensures) ∙ e .if3 .left
 
 returns : tie.Need-returns
 unfolding openedIn leftIn
@@ -29,29 +23,22 @@ returns-2 : tie.Need-returns-2
 unfolding openedIn leftIn
 returns-2 c =
     let at = c .before .before .before .before .before .before .before .before .before .args in
-    let t = c .before .before .tell .ensures in
-    rw (t .0, t .1) (short-state (now (at .state)) (now (at .shares)) [] (now (at .result)) _ (omega arith) (omega arith))
+    let told = c .before .before .tell .ensures in
+    rw (told .0, told .1) (short-state (now (at .state)) (now (at .shares)) [] (now (at .result)) _ (omega arith) (omega arith))
+
+open-requires : tie.Need-open-requires
+open-requires c κs = lists-long (now (c .before .before .before .before .before .before .before .before .before .args .state)) (omega arith)
 
 returns-3 : tie.Need-returns-3
+unfolding plannerIn
 returns-3 c =
-    let u = c .before .before .before .before in
-    let at = u .before .before .before .before .before .before .before .args in
-    let t = c .before .before .tell2 .ensures in
-    let number = u .before .open-reason in
-    rw (t .0, t .1) (open-refused-lent (now (at .state)) (now (at .shares)) (now (at .result)) (at .cores) (omega arith) (omega arith) (number .result) (number .ensures) (λ z. omega (arith, u .if3 .taken)))
-
-clear-table-requires : tie.Need-clear-table-requires
-clear-table-requires c κs =
-    let e = c .before in
-    let at = e .before .before .before .before .before .before .before .args in
-    open-room blankPlanner (now (at .shares)) (at .cores) (free-to e)
-
-returns-4 : tie.Need-returns-4
-returns-4 c =
-    let e = c .before .before .before .before .before .before .before .before .before .before .before .before in
-    let at = e .before .before .before .before .before .before .before .args in
-    let t = c .before .before .tell3 .ensures in
-    rw (t .0, t .1) (open-done-lent (now (at .state)) (now (at .shares)) (now (at .result)) (at .cores) (omega arith) (omega arith) (free-to e) (c .before .before .before .before .before .before .before .before .before .before .clear-table .ensures) (c .before .before .before .before .before .before .put-opened .ensures))
+    let at = c .before .before .before .before .before .before .before .before .before .before .before .before .before .before .before .before .before .before .before .before .before .before .args in
+    let s = now (at .state) in
+    let told = c .before .before .tell-answer .ensures in
+    let moved = c .before .before .before .before .before .before .before .before .before .before .before .before .open in
+    let left = rw (c .before .before .before .before .before .before .before .before .before .before .before .before .before .before .before .state-in .ensures) at (moved .ensures) in
+    rw (told .0, told .1, c .before .before .before .before .before .before .put-state .ensures, area-back s (moved .last .1 .0) (moved .result .state) (omega arith) (moved .kept .1 .0 ∙ lists-long s (omega arith)))
+    (opened-is s (now (at .shares)) (now (at .result)) (omega arith) (omega arith) (at .cores) (planner (moved .result .state) (moved .last .1 .0)) (moved .last .1 .1 .0) (moved .result .answer) left)
 
 pub killaruna-open-spec : {M : Type 1} → statement M
 killaruna-open-spec =
@@ -61,14 +48,14 @@ killaruna-open-spec =
     (λ c κs. search needs)  -- tell-requires
     (λ c. search needs)  -- same-length
     returns-2
-    (λ c κs. search needs)  -- open-reason-requires
-    (λ c κs. search needs)  -- tell-requires-2
+    (λ c κs. search needs)  -- state-in-requires
+    (λ c. search needs)  -- sub-open
+    (λ c. search needs)  -- part-open-start
+    (λ c. search needs)  -- part-open-end
+    open-requires
+    (λ c κs. search needs)  -- put-state-requires
+    (λ c κs. search needs)  -- tell-answer-requires
     (λ c. search needs)  -- same-length-2
-    returns-3
-    clear-table-requires
-    (λ c κs. search needs)  -- put-opened-requires
-    (λ c κs. search needs)  -- tell-requires-3
     (λ c. search needs)  -- same-length-3
     (λ c. search needs)  -- same-length-4
-    (λ c. search needs)  -- same-length-5
-    returns-4)
+    returns-3)

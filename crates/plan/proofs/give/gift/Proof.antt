@@ -11,10 +11,10 @@ most : (rate lo end : ℕ) → rate ≤ 1000 → end ≤ lo + 60000 → rate * (
 most rate lo end slow soon = let short : end - lo ≤ 60000 = omega arith in mul-le-mul slow short
 
 mul-result : tie.Need-mul-result
-mul-result c = omega (arith, most (c .args .rate) (c .args .lo) (c .args .end) (c .pre .0) (c .pre .2))
+mul-result c = omega (arith, most (c .args .rate) (c .args .lo) (c .args .end) (c .pre .0) (c .pre .1 .1))
 
 returns : tie.Need-returns
-returns c = (refl, most (c .args .rate) (c .args .lo) (c .args .end) (c .pre .0) (c .pre .2))
+returns c = (refl, most (c .args .rate) (c .args .lo) (c .args .end) (c .pre .0) (c .pre .1 .1))
 
 pub gift-spec : {M : Type 1} → statement M
 gift-spec = tie.close (tie.spec (λ c. search needs) mul-result returns)

@@ -1,13 +1,15 @@
--- `blank` is a fresh planner of no core. Both are the same zeros.
--- Assumes nothing.
-use mathlib.Core.Path.{_∙_}
-use borrow.Author.Needs.{needs}
-use Rattle.planner.proofs.Opening.{blank-fresh}
+-- `blank` is the planner of a fresh table with no core.
+use Rattle.calls.specs.Called.{blankPlanner}
+use Rattle.calls.proofs.Opening.{fresh-planner}
 use Rattle.planner.proofs.Planner.blank.Statement.{statement}
 use Rattle.planner.proofs.Planner.blank.Tie as tie
 
 returns : tie.Need-returns
-returns c = c .fresh .ensures ∙ blank-fresh
+unfolding blankPlanner
+returns c = fresh-planner 0
 
 pub blank-spec : {M : Type 1} → statement M
-blank-spec = tie.close (tie.spec (λ c κs. search needs) returns)
+blank-spec =
+    tie.close
+    (tie.spec
+    returns)

@@ -77,15 +77,16 @@ returns c =
     let due-end : length due ≤ i = omega arith in
     let wide : length row ≡ 64 = omega arith in
     let fits : ltb (k .loop .over) 2147483648 ≡ sharesFit (at .end) (at .most) due row =
-    sym (and-true _) ∙ rw (fits-done (at .end) (at .most) due row i row-end) at (k .loop .inv .fits-left) in (
-      fits,
-      (λ e. let all : sum row ≤ at .most * 64 = rw wide at (fits-sum (at .end) (at .most) due row (sym fits ∙ e)) in
-          omega (arith, sum-done row i row-end)),
-      omega (arith, owed-done (at .end) due (now (at .rates)) i due-end),
-      omega (arith, hits-done (at .end) due i due-end),
-      omega arith,
-      omega arith,
-    )
+    sym (and-true _) ∙ rw (fits-done (at .end) (at .most) due row i row-end) at (k .loop .inv .fits-left) in
+    record {
+      fit = fits;
+      sum-is = λ e. let all : sum row ≤ at .most * 64 = rw wide at (fits-sum (at .end) (at .most) due row (sym fits ∙ e)) in
+          omega (arith, sum-done row i row-end);
+      owed-is = omega (arith, owed-done (at .end) due (now (at .rates)) i due-end);
+      hits-are = omega (arith, hits-done (at .end) due i due-end);
+      small = omega arith;
+      few = omega arith;
+    }
 
 pub look-spec : {M : Type 1} → statement M
 look-spec =

@@ -1,8 +1,9 @@
 -- `answer_command` is the planner's call and the print of its answer, command by command. Every answer can be printed
 -- (`called-printable`), so the output has room.
-use mathlib.Core.Path.{refl}
+use mathlib.Core.Path.{refl, ap}
 use native.Mathlib.Omega.{arith}
 use borrow.Author.Needs.{needs}
+use Rattle.planner.specs.Struct.{inStruct}
 use Rattle.script.specs.Drilled.{answered}
 use Rattle.script.proofs.Printable.{called-printable, opening-printable}
 use Rattle.script.proofs.Answering.{left-buffer, left-printable, left-answers}
@@ -73,7 +74,7 @@ returns-6 : tie.Need-returns-6
 unfolding answered
 returns-6 c =
     let shown = c .before .before .malformed .ensures in
-    rw (c .before .before .before .before .enum-told .given .1) (record { planner = shown .0; shares = refl; segments = refl; printed = shown .1 })
+    rw (c .before .before .before .before .enum-told .given .1) (record { planner = ap (λ p. inStruct p) (shown .0); shares = refl; segments = refl; printed = shown .1 })
 
 pub answer-command-spec : {M : Type 1} → statement M
 answer-command-spec =

@@ -1,6 +1,6 @@
 -- `number_of` gives the number as document 01 has it; an answer that can be printed is no refusal with number 0.
 use borrow.Author.Needs.{needs}
-use Rattle.planner.specs.Held.{answerOf}
+use Rattle.calls.specs.Called.{answerOf}
 use Rattle.script.proofs.Printing.{refused-number}
 use Rattle.script.proofs.answer.number_of.Statement.{statement}
 use Rattle.script.proofs.answer.number_of.Tie as tie

@@ -1,10 +1,11 @@
 -- `answer_kept` answers a line that is stored whole; one of more than 64 bytes is malformed whatever it says.
-use mathlib.Core.Path.{refl, sym}
+use mathlib.Core.Path.{refl, ap, sym}
 use native.Mathlib.Omega.{arith}
 use borrow.Author.Needs.{needs}
 use denote.Ref.{now}
 use lib.Seq.{length-take-le}
 use Rattle.lines.proofs.Kept.{kept-whole, kept-long}
+use Rattle.planner.specs.Struct.{inStruct}
 use Rattle.text.proofs.Promises.{long-malformed}
 use Rattle.script.specs.Drilled.{drilled, answered}
 use Rattle.script.proofs.stream.answer_kept.Statement.{statement}
@@ -14,7 +15,7 @@ returns : tie.Need-returns
 unfolding drilled answered
 returns c =
     let m = c .before .before .malformed .ensures in
-    (m .1 .short, λ kept k. rw (long-malformed kept (kept-long k (omega (arith, c .before .before .before .before .if1 .taken)))) (record { planner = m .0; shares = refl; segments = refl; printed = m .1 }))
+    (m .1 .short, λ kept k. rw (long-malformed kept (kept-long k (omega (arith, c .before .before .before .before .if1 .taken)))) (record { planner = ap (λ p. inStruct p) (m .0); shares = refl; segments = refl; printed = m .1 }))
 
 slice-aggregate-answer-line : tie.Need-slice-aggregate-answer-line
 slice-aggregate-answer-line c =

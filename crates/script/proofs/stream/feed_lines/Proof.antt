@@ -6,6 +6,7 @@ use borrow.Author.Needs.{needs}
 use denote.Ref.{now}
 use borrow.Author.Tests.{leb-true, leb-false}
 use lib.ListN.{length, length-drop}
+use Rattle.planner.specs.Struct.{inStruct}
 use Rattle.script.specs.Drilled.{answerBytes}
 use Rattle.script.proofs.Feeding.{fedOf}
 use Rattle.script.proofs.Further.{goes-out, Going, going-none, going-more, tail-all, tail-put, taken-tail}
@@ -14,7 +15,7 @@ use Rattle.script.proofs.stream.feed_lines.Tie as tie
 
 abbrev Inv-loop : tie.InvT-loop
 Inv-loop shares₀ segments₀ line₀ len piece out₀ planner₀ kept₀ at₀ written₀ shares segments line out planner kept at written =
-    Going planner₀ shares₀ segments₀ line₀ len piece out₀ shares segments line out (fedOf planner kept at written)
+    Going (inStruct planner₀) shares₀ segments₀ line₀ len piece out₀ shares segments line out (fedOf planner kept at written)
 
 abbrev μ-loop : tie.MeasureT-loop
 μ-loop shares₀ segments₀ line₀ len piece out₀ planner₀ kept₀ at₀ written₀ shares segments line out planner kept at written = length piece - at

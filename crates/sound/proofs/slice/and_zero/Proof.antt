@@ -1,7 +1,7 @@
 -- `and_zero` joins what was found so far and a word that has to be zero.
 -- The branch that code takes for `&&` leaves one of the two.
 use mathlib.Core.Path.{refl}
-use Rattle.sound.proofs.Tests.{and-then, and-else}
+use Rattle.slots.proofs.Tests.{and-then, and-else}
 use Rattle.sound.proofs.slice.and_zero.Statement.{statement}
 use Rattle.sound.proofs.slice.and_zero.Tie as tie
 

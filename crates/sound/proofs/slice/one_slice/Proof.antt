@@ -15,28 +15,28 @@ use Rattle.sound.proofs.Passed.{not-within, sum-counts}
 use Rattle.sound.proofs.slice.one_slice.Statement.{statement}
 use Rattle.sound.proofs.slice.one_slice.Tie as tie
 
-outside : (c : tie.Joined1) → let at = c .before .before .before .before .before .before .args in within (at .start) (at .lo) (at .end) ≡ false
+outside : (c : tie.Joined1) → let at = c .before .before .before .before .before .before .args in within (at .span .start) (at .span .from) (at .span .end) ≡ false
 unfolding within
 outside c =
     let at = c .before .before .before .before .before .before .args in
     ⊎-elim
-    (λ w. rw (le-ltb (at .lo) (at .end) (omega arith)))
+    (λ w. rw (le-ltb (at .span .from) (at .span .end) (omega arith)))
     (λ v. ⊎-elim
-    (λ w. rw (lt-ltb (at .lo) (at .end) (omega arith), lt-leb (at .end - at .start) 60000 (omega (arith, ltb-true))))
-    (λ w. rw (lt-ltb (at .lo) (at .end) (omega arith), le-leb (at .end - at .start) 60000 (omega (arith, ltb-false)), lt-leb (at .end - at .lo) 60000 (omega (arith, ltb-true))))
+    (λ w. rw (lt-ltb (at .span .from) (at .span .end) (omega arith), lt-leb (at .span .end - at .span .start) 60000 (omega (arith, ltb-true))))
+    (λ w. rw (lt-ltb (at .span .from) (at .span .end) (omega arith), le-leb (at .span .end - at .span .start) 60000 (omega (arith, ltb-false)), lt-leb (at .span .end - at .span .from) 60000 (omega (arith, ltb-true))))
     v)
     (c .if1 .came)
 
-inside : (c : tie.Else3) → let at = c .before .before .before .before .before .before .before .before .args in within (at .start) (at .lo) (at .end) ≡ true
+inside : (c : tie.Else3) → let at = c .before .before .before .before .before .before .before .before .args in within (at .span .start) (at .span .from) (at .span .end) ≡ true
 unfolding within
 inside c =
     let at = c .before .before .before .before .before .before .before .before .args in
-    rw (lt-ltb (at .lo) (at .end) (omega arith), le-leb (at .end - at .start) 60000 (omega (arith, ltb-false)), le-leb (at .end - at .lo) 60000 (omega (arith, ltb-false)))
+    rw (lt-ltb (at .span .from) (at .span .end) (omega arith), le-leb (at .span .end - at .span .start) 60000 (omega (arith, ltb-false)), le-leb (at .span .end - at .span .from) 60000 (omega (arith, ltb-false)))
 
 returns : tie.Need-returns
 returns c =
     let at = c .before .before .before .before .before .before .args in
-    let none = not-within (at .start) (now (at .due)) (now (at .rates)) (at .lo) (at .end) (rowAt (at .k) (now (at .shares))) (outside c) in
+    let none = not-within (at .span .start) (now (at .due)) (now (at .rates)) (at .span .from) (at .span .end) (rowAt (at .k) (now (at .shares))) (outside c) in
     (none .0, none .1, omega arith)
 
 mul-narrow : tie.Need-mul-narrow
@@ -61,7 +61,7 @@ returns-2 c =
     let row = c .before .row-look .result in
     let got = c .before .row-look .ensures in
     let ok = inside (c .before .before .before .before) in
-    let same = sum-counts (row .fits) (row .sum) (sum (rowAt (at .k) (now (at .shares)))) (at .end - at .lo) (row .owed) (row .hits) (got .1) in
+    let same = sum-counts (row .fits) (row .sum) (sum (rowAt (at .k) (now (at .shares)))) (at .span .end - at .span .from) (row .owed) (row .hits) (got .sum-is) in
     (rw ok (cc), rw ok (cc), search needs)
 
 pub one-slice-spec : {M : Type 1} → statement M

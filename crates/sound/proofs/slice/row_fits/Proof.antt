@@ -9,7 +9,7 @@ use native.Mathlib.Omega.{arith}
 use lib.Dec.{leb, ltb}
 use Rattle.rules.specs.Sound.{every}
 use Rattle.sound.specs.Due.{rowTest}
-use Rattle.sound.proofs.Tests.{and-then, and-else}
+use Rattle.slots.proofs.Tests.{and-then, and-else}
 use Rattle.sound.proofs.slice.row_fits.Statement.{statement}
 use Rattle.sound.proofs.slice.row_fits.Tie as tie
 

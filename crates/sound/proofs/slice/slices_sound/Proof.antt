@@ -21,10 +21,10 @@ record Passing (words due rates ends : List ℕ) (count start : ℕ) (ok : Bool)
   hits-left : hits + allHits start due lo (slicesFrom k count ends words) ≡ allHits start due start (slicesFrom 0 count ends words)
 
 abbrev Inv-loop : tie.InvT-loop
-Inv-loop shares due rates ends count start found₀ lo₀ k₀ found lo k = Passing shares due rates ends count start (found .ok) (found .hits) lo k
+Inv-loop shares due rates ends count start found₀ from₀ k₀ found from k = Passing shares due rates ends count start (found .ok) (found .hits) from k
 
 abbrev μ-loop : tie.MeasureT-loop
-μ-loop shares due rates ends count start found₀ lo₀ k₀ found lo k = count - k
+μ-loop shares due rates ends count start found₀ from₀ k₀ found from k = count - k
 
 loop-holds : tie.Need-loop-holds Inv-loop μ-loop
 loop-holds c = record { inside = search needs; small = search needs; ok-left = refl; hits-left = omega arith }
@@ -40,8 +40,8 @@ loop-again c =
     record {
       inside = omega arith;
       small = omega arith;
-      ok-left = rw (c .with-slice .ensures .0, c .before .one-slice .ensures .0) (each-next (at .count) (now (at .ends)) (now (at .shares)) long few p (s .loop .found .ok) (s .loop .lo) (s .loop .k) h ∙ s .loop .inv .ok-left);
-      hits-left = omega (arith, hits-passed (at .count) (now (at .ends)) (now (at .shares)) long few (at .start) (now (at .due)) (s .loop .lo) (s .loop .k) h);
+      ok-left = rw (c .with-slice .ensures .0, c .before .one-slice .ensures .0) (each-next (at .count) (now (at .ends)) (now (at .shares)) long few p (s .loop .found .ok) (s .loop .from) (s .loop .k) h ∙ s .loop .inv .ok-left);
+      hits-left = omega (arith, hits-passed (at .count) (now (at .ends)) (now (at .shares)) long few (at .start) (now (at .due)) (s .loop .from) (s .loop .k) h);
     }
 
 returns : tie.Need-returns Inv-loop μ-loop
@@ -53,8 +53,8 @@ returns c =
     let long : length (now (at .ends)) ≡ 64 = omega arith in
     let few : at .count ≤ 64 = omega arith in
     let p = sliceCheck (at .start) (now (at .due)) (now (at .rates)) in (
-      sym (each-done (at .count) (now (at .ends)) (now (at .shares)) long few p (s .loop .found .ok) (s .loop .lo) (s .loop .k) h) ∙ s .loop .inv .ok-left,
-      omega (arith, hits-all (at .count) (now (at .ends)) (now (at .shares)) long few (at .start) (now (at .due)) (s .loop .lo) (s .loop .k) h),
+      sym (each-done (at .count) (now (at .ends)) (now (at .shares)) long few p (s .loop .found .ok) (s .loop .from) (s .loop .k) h) ∙ s .loop .inv .ok-left,
+      omega (arith, hits-all (at .count) (now (at .ends)) (now (at .shares)) long few (at .start) (now (at .due)) (s .loop .from) (s .loop .k) h),
     )
 
 pub slices-sound-spec : {M : Type 1} → statement M

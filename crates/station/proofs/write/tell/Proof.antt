@@ -1,5 +1,4 @@
--- `tell` stores number, value and count at the area's front.
--- Assumes nothing.
+-- `tell` stores number, value and count at the front; the words after them are not touched.
 use mathlib.Core.Path.{refl}
 use native.Mathlib.Omega.{arith}
 use lib.ListN.{length-set}
@@ -16,9 +15,14 @@ slice-write-result-3 : tie.Need-slice-write-result-3
 slice-write-result-3 c = simp length-set (omega arith)
 
 returns : tie.Need-returns
-returns c = let a = c .args in (refl, three (now (a .result)) (a .number) (a .value) (a .count) (omega arith))
+returns c = let a = c .args in (refl, three (now (a .result)) (a .number) (a .value) (a .count) (c .pre))
 
 pub tell-spec : {M : Type 1} → statement M
 tell-spec =
     tie.close
-    (tie.spec (λ c. search needs) slice-write-result-2 slice-write-result-3 (λ c. search needs) returns)
+    (tie.spec
+    (λ c. search needs)  -- slice-write-result
+    slice-write-result-2
+    slice-write-result-3
+    (λ c. search needs)  -- same-length
+    returns)

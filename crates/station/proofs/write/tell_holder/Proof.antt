@@ -1,5 +1,4 @@
--- `tell_holder` takes the answer apart, case by case, and tells the words of each.
--- Past the patterns of three cases the fourth is left.
+-- `tell_holder` writes holder's answer by its case.
 use mathlib.Core.List.{[], _∷_}
 use mathlib.Core.Logic.{⊎-elim}
 use mathlib.Core.Path.{_≡_, refl}
@@ -7,10 +6,11 @@ use native.Mathlib.Omega.{arith}
 use borrow.Author.Needs.{needs}
 use denote.Enum.Declared.{tagOf}
 use types.Run.{OneOf}
-use Rattle.planner.proofs.Holder.{the-type}
-use Rattle.planner.specs.declared.Holder.the-variants.{Held, IdleUntil, Idle, Refused}
-use Rattle.planner.specs.declared.Holder.{Holder}
-use Rattle.station.specs.Put.{toldIn}
+use Rattle.wrap.specs.declared.look.Holder.{Holder}
+use Rattle.wrap.specs.declared.look.Holder.the-variants.{Held, IdleUntil, Idle, Refused}
+use Rattle.wrap.proofs.look.Holder.{the-type}
+use Rattle.station.specs.Result.{answered}
+use Rattle.station.specs.Put.{plainHolder}
 use Rattle.station.proofs.write.tell_holder.Statement.{statement}
 use Rattle.station.proofs.write.tell_holder.Tie as tie
 
@@ -22,30 +22,23 @@ idle-left Idle a b c = refl
 idle-left (Refused n) a b c = absurd (⊎-elim (λ e. omega arith) (λ r. ⊎-elim (λ e. omega arith) (λ e. omega arith) r) c)
 
 returns : tie.Need-returns
-unfolding toldIn
-returns c state shares =
-    let t = c .before .before .tell in
+unfolding plainHolder answered
+returns c =
     let m = c .before .before .before .before in
     let none = idle-left (m .before .before .before .before .args .holder) (m .before .before .match .keys2) (m .before .match2 .keys2) (m .match3 .keys2) in
-    rw (none, t .ensures .0, t .ensures .1)
+    rw none (c .before .before .tell .ensures)
 
 returns-2 : tie.Need-returns-2
-unfolding toldIn
-returns-2 c state shares =
-    let t = c .before .before .tell2 in
-    rw (c .before .before .before .before .before .holder3 .given .1, t .ensures .0, t .ensures .1)
+unfolding plainHolder answered
+returns-2 c = rw (c .before .before .before .before .before .holder3 .given .1) (c .before .before .tell2 .ensures)
 
 returns-3 : tie.Need-returns-3
-unfolding toldIn
-returns-3 c state shares =
-    let t = c .before .before .tell3 in
-    rw (c .before .before .before .before .before .holder2 .given .1, t .ensures .0, t .ensures .1)
+unfolding plainHolder answered
+returns-3 c = rw (c .before .before .before .before .before .holder2 .given .1) (c .before .before .tell3 .ensures)
 
 returns-4 : tie.Need-returns-4
-unfolding toldIn
-returns-4 c state shares =
-    let t = c .before .before .tell4 in
-    rw (c .before .before .before .before .before .holder .given .1, t .ensures .0, t .ensures .1)
+unfolding plainHolder answered
+returns-4 c = rw (c .before .before .before .before .before .holder .given .1) (c .before .before .tell4 .ensures)
 
 pub tell-holder-spec : {M : Type 1} → statement M
 tell-holder-spec =

@@ -21,7 +21,7 @@ row-rest-requires c κs =
     let f = firstPart (at .part) (at .span) in
     let here = cut-first (at .k) (at .n) f (omega arith) (omega arith) (room .ensures) (first .ensures) in
     let next = cut-next (at .k) (at .n) f (omega arith) (omega arith) (room .ensures) (first .ensures) in
-    (search needs, omega arith, λ i. rw (here, next) (omega (arith, cut-whole (at .part) (at .span) (omega arith) (omega arith) r i)))
+    (search needs, (omega arith, λ i. rw (here, next) (omega (arith, cut-whole (at .part) (at .span) (omega arith) (omega arith) r i))))
 
 returns : tie.Need-returns
 unfolding secondPart

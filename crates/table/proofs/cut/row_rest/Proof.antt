@@ -15,7 +15,7 @@ cut-rest-requires c κs =
     let at = start .args in
     let v = now (at .shares) in
     let a = 64 * at .k in
-    two-below v (start .pre .0) (at .k) (omega (arith, start .pre .1)) (a + 128 - a) (omega arith) (λ i. rw add-one at (start .pre .2 i))
+    two-below v (start .pre .0) (at .k) (omega (arith, start .pre .1 .0)) (a + 128 - a) (omega arith) (λ i. rw add-one at (start .pre .1 .1 i))
 
 returns : tie.Need-returns
 returns c =
@@ -24,7 +24,7 @@ returns c =
     let v = now (at .shares) in
     let got = c .before .before .cut-rest in
     let a = 64 * at .k in
-    rw add-one (row-less v (start .pre .0) (at .k) (a + 128 - a) (got .last .0) (got .kept .0) (omega (arith, start .pre .1)) (omega arith) (got .ensures))
+    rw add-one (row-less v (start .pre .0) (at .k) (a + 128 - a) (got .last .0) (got .kept .0) (omega (arith, start .pre .1 .0)) (omega arith) (got .ensures))
 
 pub row-rest-spec : {M : Type 1} → statement M
 row-rest-spec =

@@ -13,7 +13,7 @@ lower-requires : tie.Need-lower-requires
 lower-requires c κs =
     let s = c .before .before in
     let a = 64 * s .args .k in
-    (search needs, s .pre .2, rw (row-part (s .args .k) (a + 64 - a) (now (s .args .shares)) (omega arith) (omega arith)) (s .pre .3))
+    (search needs, (s .pre .1 .1 .0, rw (row-part (s .args .k) (a + 64 - a) (now (s .args .shares)) (omega arith) (omega arith)) (s .pre .1 .1 .1)))
 
 returns : tie.Need-returns
 returns c =

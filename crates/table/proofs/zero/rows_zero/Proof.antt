@@ -24,7 +24,7 @@ four-zero-requires c κs =
     let two = part-long b q e w refl (omega arith) in
     let three = part-long e q d w refl (omega arith) in
     let four = part-long d q 4096 w (omega arith) (omega arith) in
-    (two ∙ sym one, three ∙ sym one, four ∙ sym one)
+    (two ∙ sym one, (three ∙ sym one, four ∙ sym one))
 
 returns : tie.Need-returns
 returns c =

@@ -36,8 +36,8 @@ returns c =
     let start = c .before .before .before .before .before .before .before in
     let k = c .before .before .before .before .before .loop in
     let share = c .before .before .wide .ensures .0 in
-    rw (c .held .ensures)
-    (left-here (k .inv .left) (start .pre .0 .some) (omega arith) share (start .pre .1) (omega (arith, start .pre .0 .small (k .slot))) (k .inv .before) (omega arith))
+    rw (c .found-in .ensures)
+    (left-here (k .inv .left) (start .pre .0 .some) (omega arith) share (start .pre .1 .0) (omega (arith, start .pre .0 .small (k .slot))) (k .inv .before) (omega arith))
 
 loop-again : tie.Need-loop-again Inv-loop μ-loop
 loop-again c =
@@ -66,7 +66,7 @@ holder-at-spec =
     (λ c. search needs)  -- shared-slice-read-wide
     (λ c κs. search needs)  -- wide-requires
     (λ c. search needs)  -- add-end
-    (λ c κs. search needs)  -- held-requires
+    (λ c κs. search needs)  -- found-in-requires
     returns
     (λ c. search needs)  -- add-slot
     (λ c. search needs)  -- loop-less

@@ -5,7 +5,7 @@ use native.Mathlib.Omega.{arith}
 use borrow.Author.Needs.{needs}
 use lib.ListN.{length}
 use Rattle.rules.specs.Wrap.{Segment, clip}
-use Rattle.wrap.specs.Line.{onLine}
+use Rattle.line.specs.Line.{onLine}
 use Rattle.wrap.specs.Shown.{windowOf, slotShown}
 use Rattle.wrap.proofs.Shown.{slot-length, wrote-then}
 use Rattle.wrap.proofs.segments.lay.Statement.{statement}

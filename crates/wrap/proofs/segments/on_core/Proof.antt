@@ -3,7 +3,7 @@
 use native.Mathlib.Omega.{arith}
 use borrow.Author.Needs.{needs}
 use Rattle.wrap.specs.Shown.{segmentOf}
-use Rattle.wrap.proofs.Line.{line-core}
+use Rattle.line.proofs.Line.{line-core}
 use Rattle.wrap.proofs.segments.on_core.Statement.{statement}
 use Rattle.wrap.proofs.segments.on_core.Tie as tie
 

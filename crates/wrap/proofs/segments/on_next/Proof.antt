@@ -3,7 +3,7 @@
 use native.Mathlib.Omega.{arith}
 use borrow.Author.Needs.{needs}
 use Rattle.wrap.specs.Shown.{segmentOf}
-use Rattle.wrap.proofs.Line.{line-next}
+use Rattle.line.proofs.Line.{line-next}
 use Rattle.wrap.proofs.segments.on_next.Statement.{statement}
 use Rattle.wrap.proofs.segments.on_next.Tie as tie
 

@@ -10,11 +10,11 @@ use lib.ListN.{length}
 use Rattle.rules.specs.Station.{mostCores, slotCount}
 use Rattle.rules.specs.Wrap.{Segment, Window}
 use Rattle.rules.proofs.Count.{wrap-most}
-use Rattle.wrap.specs.declared.place.Place.{Place}
+use Rattle.line.specs.declared.place.Place.{Place}
 use Rattle.wrap.specs.Asked.{mostSegments}
-use Rattle.wrap.specs.Line.{onLine}
-use Rattle.wrap.specs.Shown.{windowOf, shown}
-use Rattle.wrap.proofs.Line.{line-start}
+use Rattle.line.specs.Line.{onLine}
+use Rattle.wrap.specs.Shown.{windowOf, shown, shownIn}
+use Rattle.line.proofs.Line.{line-start}
 use Rattle.wrap.proofs.Shown.{Rest, rest-all, rest-none, rest-few, rest-more}
 use Rattle.wrap.proofs.segments.segments.Statement.{statement}
 use Rattle.wrap.proofs.segments.segments.Tie as tie
@@ -28,22 +28,22 @@ record Showing (T : ℕ) (w : Window) (row : List ℕ) (gs : List Segment) (old 
   rest : Rest w T row gs old slot (onLine T place) count buffer
 
 abbrev Inv-loop : tie.InvT-loop
-Inv-loop row slice base from to buffer₀ window place₀ count₀ slot₀ buffer place count slot =
-    Showing slice (windowOf window) row (shown base from to slice row) buffer₀ slot place count buffer
+Inv-loop row slice window buffer₀ place₀ count₀ slot₀ buffer place count slot =
+    Showing slice (windowOf window) row (shownIn window slice row) buffer₀ slot place count buffer
 
 abbrev μ-loop : tie.MeasureT-loop
-μ-loop row slice base from to buffer₀ window place₀ count₀ slot₀ buffer place count slot = slotCount - slot
+μ-loop row slice window buffer₀ place₀ count₀ slot₀ buffer place count slot = slotCount - slot
 
 loop-holds : tie.Need-loop-holds Inv-loop μ-loop
 unfolding shown windowOf
 loop-holds c =
     let at = c .before .before .args in
     let pre = c .before .before .pre in
-    let w : Window = record { base = at .base; from = at .from; to = at .to } in
+    let w = windowOf (at .window) in
     record {
       within = omega arith;
       long = refl;
-      few = omega (arith, wrap-most w (pre .0 .some) mostCores (now (at .row)) (omega arith) (pre .3));
+      few = omega (arith, wrap-most w (pre .0 .some) mostCores (now (at .row)) (omega arith) (pre .1 .1 .1));
       inside = omega arith;
       far = omega arith;
       rest = rw (line-start (at .slice)) (rest-all w (at .slice) (now (at .row)) (now (at .buffer)));

@@ -1,0 +1,12 @@
+pub mod Joint
+pub mod Called
+pub mod Among
+pub mod Reasons
+pub mod Slotted
+pub mod Opening
+pub mod Round
+pub mod Releasing
+pub mod First
+pub mod Onward
+pub mod Looking
+pub mod Promises

@@ -1,0 +1,4 @@
+pub mod Called
+pub mod Reasons
+pub mod Advancing
+pub mod Holding

@@ -1,3 +1,0 @@
-pub mod Reasons
-pub mod Front
-pub mod Asked

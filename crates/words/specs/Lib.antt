@@ -1,3 +1,0 @@
-pub mod Area
-pub mod Number
-pub mod Advanced
