@@ -1,6 +1,5 @@
 use crate::Reply;
 use calls::Answer;
-use planner::Next;
 use planner::Planner;
 use text::Command;
 use text::read_command;
@@ -77,20 +76,6 @@ fn print(answer: Answer, segments: &[u64], out: &mut [u8]) -> usize
     print_segments(segments, count as usize, out, at)
 }
 
-// What a call hands back, printed; and the state that it leaves.
-fn reply(next: Next, segments: &[u64], out: &mut [u8]) -> Reply
-    requires { ⌜ Printable (answerOf (next .answer)) × (segmentWords ≤ length (now segments))
-        × (answerBytes ≤ length (now out)) ⌝ }
-    ensures { λ r. ⌜ (r .planner ≡ next .planner)
-        × Printed (answerText (answerOf (next .answer)) (now (segments .entry)))
-        (r .used) (now (out .entry)) (now (out .exit)) ⌝ }
-{
-    let planner = next.planner;
-    let answer = next.answer;
-    let used = print(answer, segments, out);
-    Reply { planner, used }
-}
-
 // A malformed line "answers 14, before any other reason, and has no effect".
 pub fn malformed(p: Planner, out: &mut [u8]) -> Reply
     requires { ⌜ answerBytes ≤ length (now out) ⌝ }
@@ -113,11 +98,41 @@ fn answer_command(
         r (now (shares .exit)) (now (segments .exit)) (now (out .entry)) (now (out .exit)) ⌝ }
 {
     match command {
-        Command::Open(cores) => reply(p.open(shares, cores), segments, out),
-        Command::Declare(period, cost) => reply(p.declare(shares, period, cost), segments, out),
-        Command::Withdraw(slot) => reply(p.withdraw(shares, slot), segments, out),
-        Command::Release(slot) => reply(p.release(shares, slot), segments, out),
-        Command::Advance(tick) => reply(p.advance(shares, tick, segments), segments, out),
+        Command::Open(cores) => {
+            let next = p.open(shares, cores);
+            let planner = next.planner;
+            let answer = next.answer;
+            let used = print(answer, segments, out);
+            Reply { planner, used }
+        }
+        Command::Declare(period, cost) => {
+            let next = p.declare(shares, period, cost);
+            let planner = next.planner;
+            let answer = next.answer;
+            let used = print(answer, segments, out);
+            Reply { planner, used }
+        }
+        Command::Withdraw(slot) => {
+            let next = p.withdraw(shares, slot);
+            let planner = next.planner;
+            let answer = next.answer;
+            let used = print(answer, segments, out);
+            Reply { planner, used }
+        }
+        Command::Release(slot) => {
+            let next = p.release(shares, slot);
+            let planner = next.planner;
+            let answer = next.answer;
+            let used = print(answer, segments, out);
+            Reply { planner, used }
+        }
+        Command::Advance(tick) => {
+            let next = p.advance(shares, tick, segments);
+            let planner = next.planner;
+            let answer = next.answer;
+            let used = print(answer, segments, out);
+            Reply { planner, used }
+        }
         Command::Malformed => malformed(p, out),
     }
 }

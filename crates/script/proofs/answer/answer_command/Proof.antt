@@ -10,65 +10,60 @@ use Rattle.script.proofs.Answering.{left-buffer, left-printable, left-a
 use Rattle.script.proofs.answer.answer_command.Statement.{statement}
 use Rattle.script.proofs.answer.answer_command.Tie as tie
 
-reply-requires : tie.Need-reply-requires
-reply-requires c κs =
-    let pre = c .before .before .before .before .before .before .before .before .before .before .before .before .pre in
-    (left-printable _ _ _ (c .before .before .before .before .«open» .ensures) (opening-printable _ _ _), pre .0, pre .1)
+print-requires : tie.Need-print-requires
+print-requires c κs =
+    let pre = c .before .before .before .before .before .before .before .before .before .before .before .before .before .pre in
+    (left-printable _ _ _ (c .before .before .before .before .before .«open» .ensures) (opening-printable _ _ _), pre .0, pre .1)
 
-reply-requires-2 : tie.Need-reply-requires-2
-reply-requires-2 c κs =
-    let pre = c .before .before .before .before .before .before .before .before .before .before .pre in
-    (left-printable _ _ _ (c .before .before .declare .ensures) (called-printable _ _ _ _), pre .0, pre .1)
+print-requires-2 : tie.Need-print-requires-2
+print-requires-2 c κs =
+    let pre = c .before .before .before .before .before .before .before .before .before .before .before .pre in
+    (left-printable _ _ _ (c .before .before .before .declare .ensures) (called-printable _ _ _ _), pre .0, pre .1)
 
-reply-requires-3 : tie.Need-reply-requires-3
-reply-requires-3 c κs =
-    let pre = c .before .before .before .before .before .before .before .before .before .before .pre in
-    (left-printable _ _ _ (c .before .before .withdraw .ensures) (called-printable _ _ _ _), pre .0, pre .1)
+print-requires-3 : tie.Need-print-requires-3
+print-requires-3 c κs =
+    let pre = c .before .before .before .before .before .before .before .before .before .before .before .pre in
+    (left-printable _ _ _ (c .before .before .before .withdraw .ensures) (called-printable _ _ _ _), pre .0, pre .1)
 
-reply-requires-4 : tie.Need-reply-requires-4
-reply-requires-4 c κs =
-    let pre = c .before .before .before .before .before .before .before .before .before .before .before .before .pre in
-    (left-printable _ _ _ (c .before .before .before .before .release .ensures) (called-printable _ _ _ _), pre .0, pre .1)
+print-requires-4 : tie.Need-print-requires-4
+print-requires-4 c κs =
+    let pre = c .before .before .before .before .before .before .before .before .before .before .before .before .before .pre in
+    (left-printable _ _ _ (c .before .before .before .before .before .release .ensures) (called-printable _ _ _ _), pre .0, pre .1)
 
-reply-requires-5 : tie.Need-reply-requires-5
-reply-requires-5 c κs =
-    let pre = c .before .before .before .before .before .before .before .before .before .before .before .before .before .before .before .pre in
-    (left-printable _ _ _ (c .before .before .before .before .before .before .advance .ensures) (called-printable _ _ _ _), omega (arith, pre .0), pre .1)
+print-requires-5 : tie.Need-print-requires-5
+print-requires-5 c κs =
+    let pre = c .before .before .before .before .before .before .before .before .before .before .before .before .before .before .before .before .pre in
+    (left-printable _ _ _ (c .before .before .before .before .before .before .before .advance .ensures) (called-printable _ _ _ _), omega (arith, pre .0), pre .1)
 
 returns : tie.Need-returns
 unfolding answered
 returns c =
-    let left = c .before .before .before .before .before .before .before .«open» .ensures in
-    let shown = c .before .before .reply .ensures in
-    rw (c .before .before .before .before .before .before .before .before .before .before .command .given .1) (left-answers _ _ _ left refl (shown .0) (shown .1))
+    let left = c .before .before .before .before .before .before .before .before .«open» .ensures in
+    rw (c .before .before .before .before .before .before .before .before .before .before .before .command .given .1) (left-answers _ _ _ left (refl) refl (c .before .before .print .ensures))
 
 returns-2 : tie.Need-returns-2
 unfolding answered
 returns-2 c =
-    let left = c .before .before .before .before .before .declare .ensures in
-    let shown = c .before .before .reply2 .ensures in
-    rw (c .before .before .before .before .before .before .before .before .command2 .given .1) (left-answers _ _ _ left refl (shown .0) (shown .1))
+    let left = c .before .before .before .before .before .before .declare .ensures in
+    rw (c .before .before .before .before .before .before .before .before .before .command2 .given .1) (left-answers _ _ _ left (refl) refl (c .before .before .print2 .ensures))
 
 returns-3 : tie.Need-returns-3
 unfolding answered
 returns-3 c =
-    let left = c .before .before .before .before .before .withdraw .ensures in
-    let shown = c .before .before .reply3 .ensures in
-    rw (c .before .before .before .before .before .before .before .before .command3 .given .1) (left-answers _ _ _ left refl (shown .0) (shown .1))
+    let left = c .before .before .before .before .before .before .withdraw .ensures in
+    rw (c .before .before .before .before .before .before .before .before .before .command3 .given .1) (left-answers _ _ _ left (refl) refl (c .before .before .print3 .ensures))
 
 returns-4 : tie.Need-returns-4
 unfolding answered
 returns-4 c =
-    let left = c .before .before .before .before .before .before .before .release .ensures in
-    let shown = c .before .before .reply4 .ensures in
-    rw (c .before .before .before .before .before .before .before .before .before .before .command4 .given .1) (left-answers _ _ _ left refl (shown .0) (shown .1))
+    let left = c .before .before .before .before .before .before .before .before .release .ensures in
+    rw (c .before .before .before .before .before .before .before .before .before .before .before .command4 .given .1) (left-answers _ _ _ left (refl) refl (c .before .before .print4 .ensures))
 
 returns-5 : tie.Need-returns-5
 unfolding answered
 returns-5 c =
-    let left = c .before .before .before .before .before .before .before .before .before .advance .ensures in
-    let shown = c .before .before .reply5 .ensures in
-    rw (c .before .before .before .before .before .before .before .before .before .before .before .before .before .command5 .given .1) (left-answers _ _ _ left (left-buffer _ _ _ left) (shown .0) (shown .1))
+    let left = c .before .before .before .before .before .before .before .before .before .before .advance .ensures in
+    rw (c .before .before .before .before .before .before .before .before .before .before .before .before .before .before .command5 .given .1) (left-answers _ _ _ left (left-buffer _ _ _ left) refl (c .before .before .print5 .ensures))
 
 returns-6 : tie.Need-returns-6
 unfolding answered
@@ -82,19 +77,19 @@ answer-command-spec =
     (tie.spec
     (λ c. search needs)  -- enum-known-command
     (λ c κs. search needs)  -- open-requires
-    reply-requires
+    print-requires
     (λ c. search needs)  -- enum-known-command-2
     (λ c κs. search needs)  -- declare-requires
-    reply-requires-2
+    print-requires-2
     (λ c. search needs)  -- enum-known-command-3
     (λ c κs. search needs)  -- withdraw-requires
-    reply-requires-3
+    print-requires-3
     (λ c. search needs)  -- enum-known-command-4
     (λ c κs. search needs)  -- release-requires
-    reply-requires-4
+    print-requires-4
     (λ c. search needs)  -- enum-known-command-5
     (λ c κs. search needs)  -- advance-requires
-    reply-requires-5
+    print-requires-5
     (λ c. search needs)  -- enum-told
     (λ c κs. search needs)  -- malformed-requires
     (λ c. search needs)  -- same-length
