@@ -22,7 +22,8 @@ ghost use Rattle.calls.specs.Advancing.{Proceeds, crossed};
 
 // "At a boundary the jobs with that deadline end, row 0 is dropped .. and the plan start is the boundary".
 fn cross(state: State, lists: &mut [u64], shares: &mut [u32]) -> State
-    requires { ⌜ Agrees (planner state (now lists)) (now shares) × (0 < state .count) ⌝ }
+    requires { ⌜ Agrees (planner state (now lists)) (now shares) ⌝ }
+    requires { ⌜ 0 < state .count ⌝ }
     ensures { λ r. ⌜ planner r (now (lists .exit))
         ≡ plannerOf (crossed (planner state (now (lists .entry))) (now (shares .entry))) ⌝ }
     ensures { λ _. ⌜ now (shares .exit)

@@ -35,7 +35,8 @@ pub fn open_reason(words: usize, cores: u64) -> u64
 
 // Of a declare. The load is the rates of all tasks together.
 pub fn declare_reason(state: State, load: u64, period: u64, cost: u64) -> u64
-    requires { ⌜ (state .cores ≤ mostCores) × (load ≤ grains mostCores) ⌝ }
+    requires { ⌜ state .cores ≤ mostCores ⌝ }
+    requires { ⌜ load ≤ grains mostCores ⌝ }
     ensures { λ r. ⌜ r ≡ declareNumber (state .cores) (state .used) load period cost ⌝ }
 {
     if period < 1 || LONGEST_PERIOD < period {

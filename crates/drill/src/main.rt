@@ -33,8 +33,10 @@ fn answer_piece(
     piece: &[u8],
     out: &mut [u8],
 ) -> Running
-    requires { ⌜ (segmentWords ≤ length (now segments)) × (lineBytes ≤ length (now line))
-        × (len ≤ suc lineBytes) × (answerBytes ≤ length (now out)) ⌝ }
+    requires { ⌜ segmentWords ≤ length (now segments) ⌝ }
+    requires { ⌜ lineBytes ≤ length (now line) ⌝ }
+    requires { ⌜ len ≤ suc lineBytes ⌝ }
+    requires { ⌜ answerBytes ≤ length (now out) ⌝ }
     ensures { λ r. ⌜ r .len ≤ suc lineBytes ⌝ }
 {
     let mut planner = p;
@@ -67,8 +69,10 @@ fn answer_read(
     input: &mut [u8],
     out: &mut [u8],
 ) -> Running
-    requires { ⌜ (segmentWords ≤ length (now segments)) × (lineBytes ≤ length (now line))
-        × (len ≤ suc lineBytes) × (answerBytes ≤ length (now out)) ⌝ }
+    requires { ⌜ segmentWords ≤ length (now segments) ⌝ }
+    requires { ⌜ lineBytes ≤ length (now line) ⌝ }
+    requires { ⌜ len ≤ suc lineBytes ⌝ }
+    requires { ⌜ answerBytes ≤ length (now out) ⌝ }
     ensures { λ r. ⌜ r .len ≤ suc lineBytes ⌝ }
 {
     let got = libc::read(STDIN_FILENO, input);
@@ -93,8 +97,9 @@ fn answer_all(
     input: &mut [u8],
     out: &mut [u8],
 )
-    requires { ⌜ (segmentWords ≤ length (now segments)) × (lineBytes ≤ length (now line))
-        × (answerBytes ≤ length (now out)) ⌝ }
+    requires { ⌜ segmentWords ≤ length (now segments) ⌝ }
+    requires { ⌜ lineBytes ≤ length (now line) ⌝ }
+    requires { ⌜ answerBytes ≤ length (now out) ⌝ }
 {
     let mut state = Running {
         planner: Planner::blank(),

@@ -39,7 +39,8 @@ fn longer(len: usize, n: usize) -> usize
 
 // How many bytes of a piece stand before its first newline, or in all of it.
 fn line_end(piece: &[u8]) -> usize
-    ensures { λ r. ⌜ (r ≡ lineEnd (now (piece .entry))) × (r ≤ length (now (piece .entry))) ⌝ }
+    ensures { λ r. ⌜ r ≡ lineEnd (now (piece .entry)) ⌝ }
+    ensures { λ r. ⌜ r ≤ length (now (piece .entry)) ⌝ }
 {
     let mut i: usize = 0;
     while i < piece.len() {
@@ -53,7 +54,8 @@ fn line_end(piece: &[u8]) -> usize
 
 // The first n bytes of a piece, copied to a place in the line.
 fn copy(line: &mut [u8], at: usize, piece: &[u8], n: usize)
-    requires { ⌜ (at + n ≤ length (now line)) × (n ≤ length (now piece)) ⌝ }
+    requires { ⌜ at + n ≤ length (now line) ⌝ }
+    requires { ⌜ n ≤ length (now piece) ⌝ }
     ensures { λ _. ⌜ now (line .exit) ≡ paste (now (line .entry)) at (now (piece .entry)) n ⌝ }
 {
     let mut i: usize = 0;
@@ -65,7 +67,8 @@ fn copy(line: &mut [u8], at: usize, piece: &[u8], n: usize)
 
 // A piece up to its first newline, or all of it, taken into a line of which len bytes are there.
 pub fn fill(line: &mut [u8], len: usize, piece: &[u8]) -> Filled
-    requires { ⌜ (lineBytes ≤ length (now line)) × (len ≤ suc lineBytes) ⌝ }
+    requires { ⌜ lineBytes ≤ length (now line) ⌝ }
+    requires { ⌜ len ≤ suc lineBytes ⌝ }
     ensures { λ r. ⌜ Fills (now (line .entry)) len (now (piece .entry)) r (now (line .exit)) ⌝ }
 {
     let n = line_end(piece);

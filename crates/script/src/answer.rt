@@ -18,9 +18,11 @@ ghost use Rattle.script.specs.Drilled.{answerBytes, segmentText, segment
 
 // Segment k of the buffer, printed from a place on. Hands back the place after it.
 fn print_segment(segments: &[u64], k: usize, out: &mut [u8], at: usize) -> usize
-    requires { ⌜ (k < mostSegments) × (segmentWords ≤ length (now segments)) × (at + 87 ≤ length (now out)) ⌝ }
-    ensures { λ r. ⌜ (r ≡ at + length (segmentText (drop (4 * k) (now (segments .entry)))))
-        × (now (out .exit) ≡ putAt at (segmentText (drop (4 * k) (now (segments .entry)))) (now (out .entry))) ⌝ }
+    requires { ⌜ k < mostSegments ⌝ }
+    requires { ⌜ segmentWords ≤ length (now segments) ⌝ }
+    requires { ⌜ at + 87 ≤ length (now out) ⌝ }
+    ensures { λ r. ⌜ r ≡ at + length (segmentText (drop (4 * k) (now (segments .entry)))) ⌝ }
+    ensures { λ _. ⌜ now (out .exit) ≡ putAt at (segmentText (drop (4 * k) (now (segments .entry)))) (now (out .entry)) ⌝ }
 {
     let first = 4 * k;
     write_segment(
@@ -35,11 +37,12 @@ fn print_segment(segments: &[u64], k: usize, out: &mut [u8], at: usize) -> usize
 
 // The first `count` segments of the buffer, printed from a place on. Hands back the place after them.
 fn print_segments(segments: &[u64], count: usize, out: &mut [u8], at: usize) -> usize
-    requires { ⌜ (count ≤ mostSegments) × (segmentWords ≤ length (now segments))
-        × (at + 87 * count ≤ length (now out)) ⌝ }
-    ensures { λ r. ⌜ (r ≡ at + length (segmentTexts count (now (segments .entry))))
-        × (now (out .exit) ≡ putAt at (segmentTexts count (now (segments .entry))) (now (out .entry)))
-        × (r ≤ at + 87 * count) ⌝ }
+    requires { ⌜ count ≤ mostSegments ⌝ }
+    requires { ⌜ segmentWords ≤ length (now segments) ⌝ }
+    requires { ⌜ at + 87 * count ≤ length (now out) ⌝ }
+    ensures { λ r. ⌜ r ≡ at + length (segmentTexts count (now (segments .entry))) ⌝ }
+    ensures { λ _. ⌜ now (out .exit) ≡ putAt at (segmentTexts count (now (segments .entry))) (now (out .entry)) ⌝ }
+    ensures { λ r. ⌜ r ≤ at + 87 * count ⌝ }
 {
     let mut end = at;
     let mut k: usize = 0;
@@ -63,8 +66,9 @@ fn number_of(answer: Answer) -> u64
 
 // An answer, printed at the front of the output, with the segments that it counts. Hands back how many bytes that are.
 fn print(answer: Answer, segments: &[u64], out: &mut [u8]) -> usize
-    requires { ⌜ Printable (answerOf answer) × (segmentWords ≤ length (now segments))
-        × (answerBytes ≤ length (now out)) ⌝ }
+    requires { ⌜ Printable (answerOf answer) ⌝ }
+    requires { ⌜ segmentWords ≤ length (now segments) ⌝ }
+    requires { ⌜ answerBytes ≤ length (now out) ⌝ }
     ensures { λ r. ⌜ Printed (answerText (answerOf answer) (now (segments .entry)))
         r (now (out .entry)) (now (out .exit)) ⌝ }
 {
@@ -79,7 +83,8 @@ fn print(answer: Answer, segments: &[u64], out: &mut [u8]) -> usize
 // A malformed line "answers 14, before any other reason, and has no effect".
 pub fn malformed(p: Planner, out: &mut [u8]) -> Reply
     requires { ⌜ answerBytes ≤ length (now out) ⌝ }
-    ensures { λ r. ⌜ (r .planner ≡ p) × Printed (noText 14) (r .used) (now (out .entry)) (now (out .exit)) ⌝ }
+    ensures { λ r. ⌜ r .planner ≡ p ⌝ }
+    ensures { λ r. ⌜ Printed (noText 14) (r .used) (now (out .entry)) (now (out .exit)) ⌝ }
 {
     let used = write_refused(out, 0, 14);
     Reply { planner: p, used }
@@ -93,7 +98,8 @@ fn answer_command(
     command: Command,
     out: &mut [u8],
 ) -> Reply
-    requires { ⌜ (segmentWords ≤ length (now segments)) × (answerBytes ≤ length (now out)) ⌝ }
+    requires { ⌜ segmentWords ≤ length (now segments) ⌝ }
+    requires { ⌜ answerBytes ≤ length (now out) ⌝ }
     ensures { λ r. ⌜ Answers (answered (inStruct p) (now (shares .entry)) (now (segments .entry)) command)
         r (now (shares .exit)) (now (segments .exit)) (now (out .entry)) (now (out .exit)) ⌝ }
 {
@@ -145,7 +151,8 @@ pub fn answer_line(
     line: &[u8],
     out: &mut [u8],
 ) -> Reply
-    requires { ⌜ (segmentWords ≤ length (now segments)) × (answerBytes ≤ length (now out)) ⌝ }
+    requires { ⌜ segmentWords ≤ length (now segments) ⌝ }
+    requires { ⌜ answerBytes ≤ length (now out) ⌝ }
     ensures { λ r. ⌜ Answers (drilled (inStruct p) (now (shares .entry)) (now (segments .entry)) (now (line .entry)))
         r (now (shares .exit)) (now (segments .exit)) (now (out .entry)) (now (out .exit)) ⌝ }
 {

@@ -25,9 +25,11 @@ fn answer_kept(
     len: usize,
     out: &mut [u8],
 ) -> Reply
-    requires { ⌜ (segmentWords ≤ length (now segments)) × (answerBytes ≤ length (now out))
-        × (lineBytes ≤ length (now line)) ⌝ }
-    ensures { λ r. ⌜ (r .used ≤ answerBytes) × ((kept : List ℕ) → Keeps (now (line .entry)) len kept
+    requires { ⌜ segmentWords ≤ length (now segments) ⌝ }
+    requires { ⌜ answerBytes ≤ length (now out) ⌝ }
+    requires { ⌜ lineBytes ≤ length (now line) ⌝ }
+    ensures { λ r. ⌜ r .used ≤ answerBytes ⌝ }
+    ensures { λ r. ⌜ ((kept : List ℕ) → Keeps (now (line .entry)) len kept
         → Answers (drilled (inStruct p) (now (shares .entry)) (now (segments .entry)) kept)
         r (now (shares .exit)) (now (segments .exit)) (now (out .entry)) (now (out .exit))) ⌝ }
 {
@@ -47,10 +49,14 @@ pub fn feed(
     piece: &[u8],
     out: &mut [u8],
 ) -> Fed
-    requires { ⌜ (segmentWords ≤ length (now segments)) × (answerBytes ≤ length (now out))
-        × (lineBytes ≤ length (now line)) × (len ≤ suc lineBytes) ⌝ }
-    ensures { λ r. ⌜ (r .len ≤ suc lineBytes) × (r .used ≡ taken (now (piece .entry))) × (r .written ≤ answerBytes)
-        × ((kept : List ℕ) → Keeps (now (line .entry)) len kept
+    requires { ⌜ segmentWords ≤ length (now segments) ⌝ }
+    requires { ⌜ answerBytes ≤ length (now out) ⌝ }
+    requires { ⌜ lineBytes ≤ length (now line) ⌝ }
+    requires { ⌜ len ≤ suc lineBytes ⌝ }
+    ensures { λ r. ⌜ r .len ≤ suc lineBytes ⌝ }
+    ensures { λ r. ⌜ r .used ≡ taken (now (piece .entry)) ⌝ }
+    ensures { λ r. ⌜ r .written ≤ answerBytes ⌝ }
+    ensures { λ r. ⌜ ((kept : List ℕ) → Keeps (now (line .entry)) len kept
         → Comes (fed (midst (silent (inStruct p) (now (shares .entry)) (now (segments .entry))) kept)
         (take (r .used) (now (piece .entry))))
         r (now (shares .exit)) (now (segments .exit)) (now (line .exit)) (now (out .entry)) (now (out .exit))) ⌝ }
@@ -83,9 +89,11 @@ pub fn finish(
     len: usize,
     out: &mut [u8],
 ) -> Reply
-    requires { ⌜ (segmentWords ≤ length (now segments)) × (answerBytes ≤ length (now out))
-        × (lineBytes ≤ length (now line)) ⌝ }
-    ensures { λ r. ⌜ (r .used ≤ answerBytes) × ((kept : List ℕ) → Keeps (now (line .entry)) len kept
+    requires { ⌜ segmentWords ≤ length (now segments) ⌝ }
+    requires { ⌜ answerBytes ≤ length (now out) ⌝ }
+    requires { ⌜ lineBytes ≤ length (now line) ⌝ }
+    ensures { λ r. ⌜ r .used ≤ answerBytes ⌝ }
+    ensures { λ r. ⌜ ((kept : List ℕ) → Keeps (now (line .entry)) len kept
         → Answers (lastly (silent (inStruct p) (now (shares .entry)) (now (segments .entry))) kept)
         r (now (shares .exit)) (now (segments .exit)) (now (out .entry)) (now (out .exit))) ⌝ }
 {
@@ -108,10 +116,11 @@ pub fn feed_lines(
     piece: &[u8],
     out: &mut [u8],
 ) -> Fed
-    requires { ⌜ (segmentWords ≤ length (now segments)) × (lineBytes ≤ length (now line))
-        × (len ≤ suc lineBytes) ⌝ }
-    ensures { λ r. ⌜ Goes (length (now (piece .entry))) (length (now (out .entry))) r
-        × ((kept : List ℕ) → Keeps (now (line .entry)) len kept
+    requires { ⌜ segmentWords ≤ length (now segments) ⌝ }
+    requires { ⌜ lineBytes ≤ length (now line) ⌝ }
+    requires { ⌜ len ≤ suc lineBytes ⌝ }
+    ensures { λ r. ⌜ Goes (length (now (piece .entry))) (length (now (out .entry))) r ⌝ }
+    ensures { λ r. ⌜ ((kept : List ℕ) → Keeps (now (line .entry)) len kept
         → Comes (fed (midst (silent (inStruct p) (now (shares .entry)) (now (segments .entry))) kept)
         (take (r .used) (now (piece .entry))))
         r (now (shares .exit)) (now (segments .exit)) (now (line .exit)) (now (out .entry)) (now (out .exit))) ⌝ }

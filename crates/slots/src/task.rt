@@ -18,15 +18,19 @@ ghost use Rattle.slots.specs.Lists.{Tasked};
 
 // "Its rate is cost divided by period, rounded up".
 pub fn rate_of(period: u64, cost: u64) -> u64
-    requires { ⌜ (1 ≤ period) × (period ≤ longestPeriod) × (cost ≤ grains period) ⌝ }
-    ensures { λ r. ⌜ (r ≡ rateOf period cost) × (r ≤ 1000) ⌝ }
+    requires { ⌜ 1 ≤ period ⌝ }
+    requires { ⌜ period ≤ longestPeriod ⌝ }
+    requires { ⌜ cost ≤ grains period ⌝ }
+    ensures { λ r. ⌜ r ≡ rateOf period cost ⌝ }
+    ensures { λ r. ⌜ r ≤ 1000 ⌝ }
 {
     (cost + (period - 1)) / period
 }
 
 // The task in a slot.
 pub fn task_in(lists: &[u64], slot: usize) -> Task
-    requires { ⌜ (length (now lists) ≡ listWords) × (slot < slotCount) ⌝ }
+    requires { ⌜ length (now lists) ≡ listWords ⌝ }
+    requires { ⌜ slot < slotCount ⌝ }
     ensures { λ r. ⌜ r ≡ getD (tasksOf (now (lists .entry))) slot free ⌝ }
 {
     let at = TASKS_FROM + WORDS_PER_TASK * slot;
@@ -40,7 +44,8 @@ pub fn task_in(lists: &[u64], slot: usize) -> Task
 
 // A task is stored in a slot. No other word is touched.
 pub fn put_task(lists: &mut [u64], slot: usize, task: Task)
-    requires { ⌜ (length (now lists) ≡ listWords) × (slot < slotCount) ⌝ }
+    requires { ⌜ length (now lists) ≡ listWords ⌝ }
+    requires { ⌜ slot < slotCount ⌝ }
     ensures { λ _. ⌜ Tasked (now (lists .entry)) (set (tasksOf (now (lists .entry))) slot task) (now (lists .exit)) ⌝ }
 {
     let at = TASKS_FROM + WORDS_PER_TASK * slot;
@@ -52,9 +57,11 @@ pub fn put_task(lists: &mut [u64], slot: usize, task: Task)
 
 // A slot's task gets another deadline.
 pub fn put_deadline(lists: &mut [u64], slot: usize, deadline: u64)
-    requires { ⌜ (length (now lists) ≡ listWords) × (slot < slotCount) ⌝ }
+    requires { ⌜ length (now lists) ≡ listWords ⌝ }
+    requires { ⌜ slot < slotCount ⌝ }
     ensures { λ _. ⌜ Tasked (now (lists .entry))
-        (set (tasksOf (now (lists .entry))) slot (withDeadline (getD (tasksOf (now (lists .entry))) slot free) deadline))
+        (set (tasksOf (now (lists .entry))) slot
+        (withDeadline (getD (tasksOf (now (lists .entry))) slot free) deadline))
         (now (lists .exit)) ⌝ }
 {
     lists[TASKS_FROM + WORDS_PER_TASK * slot + DEADLINE] = deadline;
@@ -62,7 +69,8 @@ pub fn put_deadline(lists: &mut [u64], slot: usize, deadline: u64)
 
 // The rates of all tasks together.
 pub fn load(lists: &[u64]) -> u64
-    requires { ⌜ (length (now lists) ≡ listWords) × (rates (tasksOf (now lists)) ≤ 18446744073709551615) ⌝ }
+    requires { ⌜ length (now lists) ≡ listWords ⌝ }
+    requires { ⌜ rates (tasksOf (now lists)) ≤ 18446744073709551615 ⌝ }
     ensures { λ r. ⌜ r ≡ rates (tasksOf (now (lists .entry))) ⌝ }
 {
     let mut total: u64 = 0;

@@ -20,7 +20,9 @@ ghost use Rattle.slots.specs.Tests.{freeTest, taskTest, dueFrom, duesOf,
 // "Its rate is cost divided by period, rounded up", by a product and no division: the allowance reaches the cost, and would not
 // with a rate of one less.
 fn rate_is(period: u64, cost: u64, rate: u64) -> bool
-    requires { ⌜ (period ≤ longestPeriod) × (1 ≤ rate) × (rate ≤ grains 1) ⌝ }
+    requires { ⌜ period ≤ longestPeriod ⌝ }
+    requires { ⌜ 1 ≤ rate ⌝ }
+    requires { ⌜ rate ≤ grains 1 ⌝ }
     ensures { λ r. ⌜ r ≡ leb cost (rate * period) && ltb (rate * period - period) cost ⌝ }
 {
     let allowance = rate * period;
@@ -30,9 +32,9 @@ fn rate_is(period: u64, cost: u64, rate: u64) -> bool
 // "every slot in use has a lawful period, cost and rate". A lawful rate is "1 to 1,000", which bounds the cost too. What a yes bounds is
 // said for the callers.
 fn lawful(task: Task) -> bool
-    ensures { λ r. ⌜ (r ≡ inUse task && lawfulTest task)
-        × (r ≡ true → task .period ≤ longestPeriod)
-        × (r ≡ true → task .rate ≤ 1000) ⌝ }
+    ensures { λ r. ⌜ r ≡ inUse task && lawfulTest task ⌝ }
+    ensures { λ r. ⌜ (r ≡ true → task .period ≤ longestPeriod) ⌝ }
+    ensures { λ r. ⌜ (r ≡ true → task .rate ≤ 1000) ⌝ }
 {
     if task.period < 1 || LONGEST_PERIOD < task.period {
         return false;
@@ -45,7 +47,8 @@ fn lawful(task: Task) -> bool
 
 // "each pending job's deadline is in range, above the clock and at most plan start plus period"
 fn in_time(task: Task, clock: u64, start: u64) -> bool
-    requires { ⌜ (start ≤ lastTick) × (task .period ≤ longestPeriod) ⌝ }
+    requires { ⌜ start ≤ lastTick ⌝ }
+    requires { ⌜ task .period ≤ longestPeriod ⌝ }
     ensures { λ r. ⌜ r ≡ inTimeTest clock start task ⌝ }
 {
     if task.deadline == 0 {
@@ -65,8 +68,8 @@ fn unused(task: Task) -> bool
 // is at most 1,000.
 fn one_task(used: u64, task: Task, clock: u64, start: u64) -> bool
     requires { ⌜ start ≤ lastTick ⌝ }
-    ensures { λ r. ⌜ (r ≡ eqb (used % 2) (flag (inUse task)) && taskTest clock start task)
-        × (r ≡ true → task .rate ≤ 1000) ⌝ }
+    ensures { λ r. ⌜ r ≡ eqb (used % 2) (flag (inUse task)) && taskTest clock start task ⌝ }
+    ensures { λ r. ⌜ (r ≡ true → task .rate ≤ 1000) ⌝ }
 {
     if used % 2 == 0 {
         return unused(task);
@@ -91,12 +94,14 @@ fn due_of(deadline: u64, start: u64) -> u32
 // All slots: the word of the slots in use, and each task by itself. The same pass writes the deadlines and the rates side by side;
 // it ends at the first slot that is not sound.
 pub fn tasks_sound(state: State, lists: &[u64], due: &mut [u32], rates: &mut [u32]) -> bool
-    requires { ⌜ (state .start ≤ lastTick) × (length (now lists) ≡ listWords)
-        × (length (now due) ≡ slotCount) × (length (now rates) ≡ slotCount) ⌝ }
-    ensures { λ r. ⌜ (r ≡ eqb (state .used) (usedOf (tasksOf (now (lists .entry))))
-        && eachTask (taskTest (state .clock) (state .start)) (tasksOf (now (lists .entry))))
-        × (r ≡ true → now (due .exit) ≡ duesOf (state .start) (tasksOf (now (lists .entry))))
-        × (r ≡ true → now (rates .exit) ≡ ratesOf (tasksOf (now (lists .entry)))) ⌝ }
+    requires { ⌜ state .start ≤ lastTick ⌝ }
+    requires { ⌜ length (now lists) ≡ listWords ⌝ }
+    requires { ⌜ length (now due) ≡ slotCount ⌝ }
+    requires { ⌜ length (now rates) ≡ slotCount ⌝ }
+    ensures { λ r. ⌜ r ≡ eqb (state .used) (usedOf (tasksOf (now (lists .entry))))
+        && eachTask (taskTest (state .clock) (state .start)) (tasksOf (now (lists .entry))) ⌝ }
+    ensures { λ r. ⌜ (r ≡ true → now (due .exit) ≡ duesOf (state .start) (tasksOf (now (lists .entry)))) ⌝ }
+    ensures { λ r. ⌜ (r ≡ true → now (rates .exit) ≡ ratesOf (tasksOf (now (lists .entry)))) ⌝ }
 {
     let mut left = state.used;
     for i in 0..SLOTS {

@@ -16,9 +16,10 @@ pub struct DueFacts {
 
 pub fn due_facts(due: &[u32], rates: &[u32], end: u32) -> DueFacts
     requires { ⌜ Listed (now due) (now rates) ⌝ }
-    ensures { λ r. ⌜ (r .owed ≡ owedIn end (now (due .entry)) (now (rates .entry)))
-        × (r .hits ≡ hitsIn end (now (due .entry)))
-        × (r .owed ≤ 274877906880) × (r .hits ≤ slotCount) ⌝ }
+    ensures { λ r. ⌜ r .owed ≡ owedIn end (now (due .entry)) (now (rates .entry)) ⌝ }
+    ensures { λ r. ⌜ r .hits ≡ hitsIn end (now (due .entry)) ⌝ }
+    ensures { λ r. ⌜ r .owed ≤ 274877906880 ⌝ }
+    ensures { λ r. ⌜ r .hits ≤ slotCount ⌝ }
 {
     let mut owed: u64 = 0;
     let mut hits: u32 = 0;

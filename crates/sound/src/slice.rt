@@ -30,7 +30,8 @@ pub struct Span {
 
 // What one pass over the row gave, for a slice that is `long` ticks long.
 fn row_fits(row: RowFacts, long: u64) -> bool
-    requires { ⌜ (long ≤ longestPeriod) × (row .owed ≤ 4294967295) ⌝ }
+    requires { ⌜ long ≤ longestPeriod ⌝ }
+    requires { ⌜ row .owed ≤ 4294967295 ⌝ }
     ensures { λ r. ⌜ r ≡ rowTest (row .fits) (row .sum) long (row .owed) (row .hits) ⌝ }
 {
     row.fits && row.sum <= long * row.owed && 0 < row.hits
@@ -38,12 +39,13 @@ fn row_fits(row: RowFacts, long: u64) -> bool
 
 // Row k and the time of its slice. Any times may come: those that no sound table has are answered before anything is computed.
 fn one_slice(shares: &[u32], k: usize, due: &[u32], rates: &[u32], span: Span) -> SliceFacts
-    requires { ⌜ Beside (now due) (now rates) (now shares) × (k < rowCount) ⌝ }
-    ensures { λ r. ⌜ (r .ok ≡ sliceCheck (span .start) (now (due .entry)) (now (rates .entry)) (span .from)
-        (sliceAt (span .end) (rowAt k (now (shares .entry)))))
-        × (r .hits ≡ sliceHits (span .start) (now (due .entry)) (span .from)
-        (sliceAt (span .end) (rowAt k (now (shares .entry)))))
-        × (r .hits ≤ slotCount) ⌝ }
+    requires { ⌜ Beside (now due) (now rates) (now shares) ⌝ }
+    requires { ⌜ k < rowCount ⌝ }
+    ensures { λ r. ⌜ r .ok ≡ sliceCheck (span .start) (now (due .entry)) (now (rates .entry)) (span .from)
+        (sliceAt (span .end) (rowAt k (now (shares .entry)))) ⌝ }
+    ensures { λ r. ⌜ r .hits ≡ sliceHits (span .start) (now (due .entry)) (span .from)
+        (sliceAt (span .end) (rowAt k (now (shares .entry)))) ⌝ }
+    ensures { λ r. ⌜ r .hits ≤ slotCount ⌝ }
 {
     let at = since(span.start, span.end);
     let long = since(span.from, span.end);
@@ -60,8 +62,10 @@ fn one_slice(shares: &[u32], k: usize, due: &[u32], rates: &[u32], span: Span) -
 
 // What was found so far, with one slice more.
 fn with_slice(found: SliceFacts, one: SliceFacts) -> SliceFacts
-    requires { ⌜ (found .hits ≤ 4096) × (one .hits ≤ slotCount) ⌝ }
-    ensures { λ r. ⌜ (r .ok ≡ found .ok && one .ok) × (r .hits ≡ found .hits + one .hits) ⌝ }
+    requires { ⌜ found .hits ≤ 4096 ⌝ }
+    requires { ⌜ one .hits ≤ slotCount ⌝ }
+    ensures { λ r. ⌜ r .ok ≡ found .ok && one .ok ⌝ }
+    ensures { λ r. ⌜ r .hits ≡ found .hits + one .hits ⌝ }
 {
     let hits = found.hits + one.hits;
     SliceFacts {
@@ -79,11 +83,13 @@ pub fn slices_sound(
     count: usize,
     start: u64,
 ) -> SliceFacts
-    requires { ⌜ Beside (now due) (now rates) (now shares) × (length (now ends) ≡ rowCount) × (count ≤ rowCount) ⌝ }
-    ensures { λ r. ⌜ (r .ok ≡ eachSlice (sliceCheck start (now (due .entry)) (now (rates .entry))) start
-        (slicesOf (take count (now (ends .entry))) (rowsOf rowCount (now (shares .entry)))))
-        × (r .hits ≡ allHits start (now (due .entry)) start
-        (slicesOf (take count (now (ends .entry))) (rowsOf rowCount (now (shares .entry))))) ⌝ }
+    requires { ⌜ Beside (now due) (now rates) (now shares) ⌝ }
+    requires { ⌜ length (now ends) ≡ rowCount ⌝ }
+    requires { ⌜ count ≤ rowCount ⌝ }
+    ensures { λ r. ⌜ r .ok ≡ eachSlice (sliceCheck start (now (due .entry)) (now (rates .entry))) start
+        (slicesOf (take count (now (ends .entry))) (rowsOf rowCount (now (shares .entry)))) ⌝ }
+    ensures { λ r. ⌜ r .hits ≡ allHits start (now (due .entry)) start
+        (slicesOf (take count (now (ends .entry))) (rowsOf rowCount (now (shares .entry)))) ⌝ }
 {
     let mut found = SliceFacts { ok: true, hits: 0 };
     let mut from = start;
@@ -105,7 +111,8 @@ fn and_zero(ok: bool, word: u64) -> bool
 
 // No boundary is left past the last.
 pub fn ends_zero(ends: &[u64], count: usize) -> bool
-    requires { ⌜ (length (now ends) ≡ rowCount) × (count ≤ rowCount) ⌝ }
+    requires { ⌜ length (now ends) ≡ rowCount ⌝ }
+    requires { ⌜ count ≤ rowCount ⌝ }
     ensures { λ r. ⌜ r ≡ eqb (sum (drop count (now (ends .entry)))) 0 ⌝ }
 {
     let mut ok = true;

@@ -20,7 +20,7 @@ slice-aggregate-write-all c =
     let s = c .before .before .before .before .before .before .before .before .before .before .before .before .before .before .before .before .before .before .before .before .before in
     let k = c .before .before .before .before .before .before .before .before .before .before .before .before .before .before .loop in
     let f = c .before .before .before .before .before .before .before .finish in
-    sym (length-take-le (f .result .used) (f .last .1 .1 .1 .1 .1 .0) (omega (arith, f .ensures .0, f .kept .1 .1 .1 .1 .1 .0, k .inv .0 .out-same, s .pre .2)))
+    sym (length-take-le (f .result .used) (f .last .1 .1 .1 .1 .1 .0) (omega (arith, f .ensures .0, f .kept .1 .1 .1 .1 .1 .0, k .inv .0 .out-same, s .pre .1 .1)))
 
 pub answer-all-spec : {M : Type 1} → statement M
 answer-all-spec =

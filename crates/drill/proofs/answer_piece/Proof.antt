@@ -38,7 +38,7 @@ loop-less c =
     let g = c .before .before .before .before .before .before .before .before .before .before .before .before .feed-lines .ensures .0 in
     let more = c .before .before .before .before .before .before .before .before .before .before .before .before .before .before .before .before .before .before .before .loop-test .taken in
     let rest = tail-length (k .at) (now (s .args .piece)) in
-    let some = g .some (omega arith) (omega (arith, s .pre .3, k .inv .0 .out-same)) in
+    let some = g .some (omega arith) (omega (arith, s .pre .1 .1 .1, k .inv .0 .out-same)) in
     omega arith
 
 pub answer-piece-spec : {M : Type 1} → statement M

@@ -54,7 +54,7 @@ rate-of-requires : tie.Need-rate-of-requires
 rate-of-requires c κs =
     let u = c .before .before .before in
     let at = u .before .before .before .before .args in
-    (u .before .before .before .if1 .left, ltb-false longestPeriod (at .period) (u .before .before .if2 .left), ltb-false (grains (at .period)) (at .cost) (u .if4 .left))
+    (u .before .before .before .if1 .left, (ltb-false longestPeriod (at .period) (u .before .before .if2 .left), ltb-false (grains (at .period)) (at .cost) (u .if4 .left)))
 
 returns-4 : tie.Need-returns-4
 unfolding declareNumber

@@ -28,7 +28,7 @@ none e = sym (e .before .declare-number .ensures) ∙ e .if1 .left
 rate-of-requires : tie.Need-rate-of-requires
 rate-of-requires c κs =
     let at = c .before .before .before .before .before .before .args in
-    declared-lawful (planner (at .state) (now (at .lists))) (now (at .shares)) (omega arith) (at .period) (at .cost) (none (c .before))
+    omega (arith, declared-lawful (planner (at .state) (now (at .lists))) (now (at .shares)) (omega arith) (at .period) (at .cost) (none (c .before)))
 
 put-task-requires : tie.Need-put-task-requires
 put-task-requires c κs =

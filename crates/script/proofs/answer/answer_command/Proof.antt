@@ -13,27 +13,27 @@ use Rattle.script.proofs.answer.answer_command.Tie as tie
 print-requires : tie.Need-print-requires
 print-requires c κs =
     let pre = c .before .before .before .before .before .before .before .before .before .before .before .before .before .pre in
-    (left-printable _ _ _ (c .before .before .before .before .before .«open» .ensures) (opening-printable _ _ _), pre .0, pre .1)
+    (left-printable _ _ _ (c .before .before .before .before .before .«open» .ensures) (opening-printable _ _ _), (pre .0, pre .1))
 
 print-requires-2 : tie.Need-print-requires-2
 print-requires-2 c κs =
     let pre = c .before .before .before .before .before .before .before .before .before .before .before .pre in
-    (left-printable _ _ _ (c .before .before .before .declare .ensures) (called-printable _ _ _ _), pre .0, pre .1)
+    (left-printable _ _ _ (c .before .before .before .declare .ensures) (called-printable _ _ _ _), (pre .0, pre .1))
 
 print-requires-3 : tie.Need-print-requires-3
 print-requires-3 c κs =
     let pre = c .before .before .before .before .before .before .before .before .before .before .before .pre in
-    (left-printable _ _ _ (c .before .before .before .withdraw .ensures) (called-printable _ _ _ _), pre .0, pre .1)
+    (left-printable _ _ _ (c .before .before .before .withdraw .ensures) (called-printable _ _ _ _), (pre .0, pre .1))
 
 print-requires-4 : tie.Need-print-requires-4
 print-requires-4 c κs =
     let pre = c .before .before .before .before .before .before .before .before .before .before .before .before .before .pre in
-    (left-printable _ _ _ (c .before .before .before .before .before .release .ensures) (called-printable _ _ _ _), pre .0, pre .1)
+    (left-printable _ _ _ (c .before .before .before .before .before .release .ensures) (called-printable _ _ _ _), (pre .0, pre .1))
 
 print-requires-5 : tie.Need-print-requires-5
 print-requires-5 c κs =
     let pre = c .before .before .before .before .before .before .before .before .before .before .before .before .before .before .before .before .pre in
-    (left-printable _ _ _ (c .before .before .before .before .before .before .before .advance .ensures) (called-printable _ _ _ _), omega (arith, pre .0), pre .1)
+    (left-printable _ _ _ (c .before .before .before .before .before .before .before .advance .ensures) (called-printable _ _ _ _), (omega (arith, pre .0), pre .1))
 
 returns : tie.Need-returns
 unfolding answered

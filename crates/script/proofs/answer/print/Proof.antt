@@ -20,7 +20,7 @@ print-segments-requires c κs =
     let few = done-few (is .1) (s .pre .0) in
     let ok = ok-length (is .0 .0) in
     let w = c .before .before .before .write-done in
-    (few, s .pre .1, omega (arith, w .ensures .0, s .pre .2))
+    (few, (s .pre .1 .0, omega (arith, w .ensures .0, s .pre .1 .1)))
 
 returns-2 : tie.Need-returns-2
 returns-2 c =
@@ -28,7 +28,7 @@ returns-2 c =
     let is = c .before .before .before .before .before .before .before .before .before .answer .given in
     let w = c .before .before .before .before .before .before .write-done in
     let p = c .before .before .print-segments in
-    done-printed (now (s .args .segments)) (now (s .args .out)) (is .1) (done-few (is .1) (s .pre .0)) (w .ensures .0) (w .ensures .1) (p .ensures .0) (p .ensures .1) (p .ensures .2)
+    done-printed (now (s .args .segments)) (now (s .args .out)) (is .1) (done-few (is .1) (s .pre .0)) (w .ensures .0) (w .ensures .1) (p .ensures .0) (p .ensures .1 .0) (p .ensures .1 .1)
 
 pub print-spec : {M : Type 1} → statement M
 print-spec =

@@ -20,14 +20,14 @@ print-segment-requires : tie.Need-print-segment-requires Inv-loop μ-loop
 print-segment-requires c κs =
     let k = c .before .before .loop in
     let s = c .before .before .before .before .before in
-    (omega (arith, s .pre), s .pre .1, omega (arith, s .pre .2, k .inv))
+    (omega (arith, s .pre), (s .pre .1 .0, omega (arith, s .pre .1 .1, k .inv)))
 
 loop-again : tie.Need-loop-again Inv-loop μ-loop
 loop-again c =
     let k = c .before .before .before .before .before .loop in
     let s = c .before .before .before .before .before .before .before .before in
     let p = c .before .before .print-segment in
-    printing-more (k .inv) (omega arith) (s .pre .2) (p .ensures .0) (p .ensures .1)
+    printing-more (k .inv) (omega arith) (s .pre .1 .1) (p .ensures .0) (p .ensures .1)
 
 returns : tie.Need-returns Inv-loop μ-loop
 returns c =
@@ -35,7 +35,7 @@ returns c =
     let s = c .before .before .before .before in
     let end : k .k ≡ s .args .count = omega (arith, k .inv .within) in
     let all = printing-all (rw end at (k .inv)) in
-    (all .0, all .1, omega (arith, k .inv .room))
+    (all .0, (all .1, omega (arith, k .inv .room)))
 
 pub print-segments-spec : {M : Type 1} → statement M
 print-segments-spec =

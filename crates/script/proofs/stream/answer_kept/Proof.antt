@@ -20,7 +20,7 @@ returns c =
 slice-aggregate-answer-line : tie.Need-slice-aggregate-answer-line
 slice-aggregate-answer-line c =
     let s = c .before .before .before .before .before .before .before .before in
-    sym (length-take-le (s .args .len) (now (s .args .line)) (omega (arith, s .pre .2)))
+    sym (length-take-le (s .args .len) (now (s .args .line)) (omega (arith, s .pre .1 .1)))
 
 returns-2 : tie.Need-returns-2
 returns-2 c =

@@ -14,7 +14,7 @@ returns : tie.Need-returns
 returns c =
     let s = c .before .before .before .before .before .before .before .before .before .before .before in
     let f = c .before .before .before .before .fill .ensures in
-    (omega (arith, f .length-is), f .used, omega arith, λ kept k. comes-part f k (s .args .p) (now (s .args .shares)) (now (s .args .segments)) (not-true _ (c .if1 .taken)) (now (s .args .out)))
+    (omega (arith, f .length-is), (f .used, (omega arith, λ kept k. comes-part f k (s .args .p) (now (s .args .shares)) (now (s .args .segments)) (not-true _ (c .if1 .taken)) (now (s .args .out)))))
 
 returns-2 : tie.Need-returns-2
 returns-2 c =
@@ -22,7 +22,7 @@ returns-2 c =
     let f = c .before .before .before .before .before .before .before .before .before .before .before .before .before .before .before .before .fill .ensures in
     let a = c .before .before .before .before .before .before .before .answer-kept .ensures in
     let over = not-false _ (c .before .before .before .before .before .before .before .before .before .before .before .before .if1 .left) in
-    (omega arith, f .used, a .0, λ kept k. comes-ended f k (s .args .p) (now (s .args .shares)) (now (s .args .segments)) over (a .1 (kept ++ headOf (now (s .args .piece))) (keeps-filled k f)))
+    (omega arith, (f .used, (a .0, λ kept k. comes-ended f k (s .args .p) (now (s .args .shares)) (now (s .args .segments)) over (a .1 (kept ++ headOf (now (s .args .piece))) (keeps-filled k f)))))
 
 pub feed-spec : {M : Type 1} → statement M
 feed-spec =

@@ -21,21 +21,21 @@ abbrev μ-loop : tie.MeasureT-loop
 μ-loop shares₀ segments₀ line₀ len piece out₀ planner₀ kept₀ at₀ written₀ shares segments line out planner kept at written = length piece - at
 
 loop-holds : tie.Need-loop-holds Inv-loop μ-loop
-loop-holds c = let s = c .before .before .before .before .before in going-none (s .args .p) _ _ _ _ _ _ (s .pre .2)
+loop-holds c = let s = c .before .before .before .before .before in going-none (s .args .p) _ _ _ _ _ _ (s .pre .1 .1)
 
 feed-requires : tie.Need-feed-requires Inv-loop μ-loop
 feed-requires c κs =
     let s = c .before .before .before .before .before .before .before .before .before .before .before .before .before in
     let k = c .before .before .before .before .before .before .before .loop in
     let room = leb-true _ _ (c .before .before .before .before .before .if1 .taken) in
-    (omega (arith, s .pre .0, k .inv .same-buffer), rw (tail-all (k .written) (k .out), length-drop (k .written) (k .out)) room, omega (arith, s .pre .1, k .inv .same-line), k .inv .short)
+    (omega (arith, s .pre .0, k .inv .same-buffer), (rw (tail-all (k .written) (k .out), length-drop (k .written) (k .out)) room, (omega (arith, s .pre .1 .0, k .inv .same-line), k .inv .short)))
 
 add-at : tie.Need-add-at Inv-loop μ-loop
 add-at c =
     let s = c .before .before .before .before .before .before .before .before .before .before .before .before .before .before .before .before .before .before .before .before .before .before .before .before in
     let k = c .before .before .before .before .before .before .before .before .before .before .before .before .before .before .before .before .before .before .loop in
     let f = c .before .before .before .before .before .before .before .before .before .before .feed in
-    omega (arith, taken-tail (k .at) (now (s .args .piece)) (c .before .before .before .before .before .before .before .before .before .before .before .before .before .before .before .before .before .loop-test .taken), f .ensures .1)
+    omega (arith, taken-tail (k .at) (now (s .args .piece)) (c .before .before .before .before .before .before .before .before .before .before .before .before .before .before .before .before .before .loop-test .taken), f .ensures .1 .0)
 
 add-written : tie.Need-add-written Inv-loop μ-loop
 add-written c =
@@ -43,14 +43,14 @@ add-written c =
     let s = c .before .before .before .before .before .before .before .before .before .before .before .before .before .before .before .before .before .before .before .before .before .before .before .before .before in
     let room : answerBytes ≤ length (k .out) - k .written = leb-true _ _ (c .before .before .before .before .before .before .before .before .before .before .before .before .before .before .before .before .before .if1 .taken) in
     let f = c .before .before .before .before .before .before .before .before .before .before .before .feed in
-    omega (arith, f .ensures .2, k .inv .same-out, s .good)
+    omega (arith, f .ensures .1 .1 .0, k .inv .same-out, s .good)
 
 loop-less : tie.Need-loop-less Inv-loop μ-loop
 loop-less c =
     let s = c .before .before .before .before .before .before .before .before .before .before .before .before .before .before .before .before .before .before .before .before .before .before .before .before .before in
     let k = c .before .before .before .before .before .before .before .before .before .before .before .before .before .before .before .before .before .before .before .loop in
     let f = c .before .before .before .before .before .before .before .before .before .before .before .feed in
-    omega (arith, taken-tail (k .at) (now (s .args .piece)) (c .before .before .before .before .before .before .before .before .before .before .before .before .before .before .before .before .before .before .loop-test .taken), f .ensures .1)
+    omega (arith, taken-tail (k .at) (now (s .args .piece)) (c .before .before .before .before .before .before .before .before .before .before .before .before .before .before .before .before .before .before .loop-test .taken), f .ensures .1 .0)
 
 loop-again : tie.Need-loop-again Inv-loop μ-loop
 loop-again c =
@@ -59,7 +59,7 @@ loop-again c =
     let f = c .before .before .before .before .before .before .before .before .before .before .before .feed in
     let room : answerBytes ≤ length (k .out) - k .written = leb-true _ _ (c .before .before .before .before .before .before .before .before .before .before .before .before .before .before .before .before .before .if1 .taken) in
     going-more (k .inv) (c .before .before .before .before .before .before .before .before .before .before .before .before .before .before .before .before .before .before .loop-test .taken) (omega (arith, room)) (tail-all (k .at) (now (s .args .piece))) (tail-all (k .written) (k .out)) (tail-put (k .written) (k .out) (f .last .1 .1 .1 .1 .1 .1 .0))
-    (f .ensures .0) (f .ensures .1) (f .ensures .2) (f .ensures .3) (f .kept .1 .0) (f .kept .1 .1 .0) (f .kept .1 .1 .1 .0) (f .kept .1 .1 .1 .1 .1 .1 .0)
+    (f .ensures .0) (f .ensures .1 .0) (f .ensures .1 .1 .0) (f .ensures .1 .1 .1) (f .kept .1 .0) (f .kept .1 .1 .0) (f .kept .1 .1 .1 .0) (f .kept .1 .1 .1 .1 .1 .1 .0)
 
 returns : tie.Need-returns Inv-loop μ-loop
 returns c =

@@ -19,8 +19,7 @@ returns c =
           (λ w. rw (le-ltb 0 (at .task .period) (omega arith)))
           (λ w. rw (lt-ltb 0 (at .task .period) (omega arith), lt-leb (at .task .period) 60000 (omega (arith, ltb-true))))
           (c .if1 .came),
-      (λ e. absurd (not-both e refl)),
-      (λ e. absurd (not-both e refl)),
+      ((λ e. absurd (not-both e refl)), (λ e. absurd (not-both e refl))),
     )
 
 returns-2 : tie.Need-returns-2
@@ -32,8 +31,7 @@ returns-2 c =
           (λ w. rw (lt-leb 1 (at .task .rate) (omega arith)))
           (λ w. rw (le-leb 1 (at .task .rate) (omega arith), lt-leb (at .task .rate) 1000 (omega (arith, ltb-true))))
           (c .if3 .came)),
-      (λ e. absurd (not-both e refl)),
-      (λ e. absurd (not-both e refl)),
+      ((λ e. absurd (not-both e refl)), (λ e. absurd (not-both e refl))),
     )
 
 rate-is-requires : tie.Need-rate-is-requires
@@ -44,8 +42,7 @@ unfolding lawfulTest inUse every
 returns-3 c =
     let at = c .before .before .before .before .before .before .before .before .before .args in (
       rw (lt-ltb 0 (at .task .period) (omega arith), le-leb (at .task .period) 60000 (omega (arith, ltb-false)), lawful-rate (at .task .period) (at .task .cost) (at .task .rate) (omega arith), le-leb 1 (at .task .rate) (omega arith), le-leb (at .task .rate) 1000 (omega (arith, ltb-false))) (c .rate-is .ensures),
-      (λ e. omega (arith, ltb-false)),
-      (λ e. omega (arith, ltb-false)),
+      ((λ e. omega (arith, ltb-false)), (λ e. omega (arith, ltb-false))),
     )
 
 pub lawful-spec : {M : Type 1} → statement M

@@ -19,7 +19,7 @@ returns c =
     (rw bit (c .unused .ensures ∙ free-task (at .clock) (at .start) k), (λ e. omega (arith, free-rate k (sym (c .unused .ensures) ∙ e))))
 
 in-time-requires : tie.Need-in-time-requires
-in-time-requires c κs = (omega arith, c .before .lawful .ensures .1 (c .if2 .taken))
+in-time-requires c κs = (omega arith, c .before .lawful .ensures .1 .0 (c .if2 .taken))
 
 returns-2 : tie.Need-returns-2
 unfolding lawfulTest inTimeTest inUse pending
@@ -28,7 +28,7 @@ returns-2 c =
     let l = c .before .before .lawful .ensures in
     let bit : at .used % 2 ≡ 1 = omega arith in (
       rw bit (and-then _ _ (sym (l .0) ∙ c .before .if2 .taken) (c .in-time .ensures) ∙ used-task (at .clock) (at .start) (at .task)),
-      (λ e. l .2 (c .before .if2 .taken)),
+      (λ e. l .1 .1 (c .before .if2 .taken)),
     )
 
 returns-3 : tie.Need-returns-3

@@ -37,7 +37,7 @@ returns : tie.Need-returns Inv-loop μ-loop
 returns c =
     let k = c .before .before .before .before in
     let fails = sym (asked (c .before)) ∙ not-true _ (c .if1 .taken) in
-    (going-fails (k .loop .inv) (slots-length _) free (omega arith) fails, (λ e. absurd (not-both e refl)), (λ e. absurd (not-both e refl)))
+    (going-fails (k .loop .inv) (slots-length _) free (omega arith) fails, ((λ e. absurd (not-both e refl)), (λ e. absurd (not-both e refl))))
 
 -- a sound task's rate is small
 narrow-requires : tie.Need-narrow-requires Inv-loop μ-loop
@@ -56,7 +56,7 @@ loop-again c =
 returns-2 : tie.Need-returns-2 Inv-loop μ-loop
 returns-2 c =
     let done = going-done (c .before .loop .inv) (slots-length _) (omega arith) (omega arith) (omega arith) in
-    (done .0, (λ e. done .1), (λ e. done .2))
+    (done .0, ((λ e. done .1), (λ e. done .2)))
 
 pub tasks-sound-spec : {M : Type 1} → statement M
 tasks-sound-spec =

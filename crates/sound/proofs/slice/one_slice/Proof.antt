@@ -37,7 +37,7 @@ returns : tie.Need-returns
 returns c =
     let at = c .before .before .before .before .before .before .args in
     let none = not-within (at .span .start) (now (at .due)) (now (at .rates)) (at .span .from) (at .span .end) (rowAt (at .k) (now (at .shares))) (outside c) in
-    (none .0, none .1, omega arith)
+    (none .0, (none .1, omega arith))
 
 mul-narrow : tie.Need-mul-narrow
 mul-narrow c = omega (arith, ltb-false)
@@ -62,7 +62,7 @@ returns-2 c =
     let got = c .before .row-look .ensures in
     let ok = inside (c .before .before .before .before) in
     let same = sum-counts (row .fits) (row .sum) (sum (rowAt (at .k) (now (at .shares)))) (at .span .end - at .span .from) (row .owed) (row .hits) (got .sum-is) in
-    (rw ok (cc), rw ok (cc), search needs)
+    (rw ok (cc), (rw ok (cc), search needs))
 
 pub one-slice-spec : {M : Type 1} → statement M
 one-slice-spec =

@@ -58,7 +58,7 @@ test c =
     let s = c .before .before in
     let l = s .before .before .before in
     let fits = sym (loaded l) ∙ not-false _ (s .before .before .if1 .left) in
-    rw (plan-order (at .state .cores) (at .state .clock) (at .state .start) (now (at .due)) (now (at .rates)) (at .state .count) (now (at .ends)) (now (at .shares)), fits, three c, two (c .before), s .slices-sound .ensures .0, s .slices-sound .ensures .1, l .before .due-facts .ensures .1)
+    rw (plan-order (at .state .cores) (at .state .clock) (at .state .start) (now (at .due)) (now (at .rates)) (at .state .count) (now (at .ends)) (now (at .shares)), fits, three c, two (c .before), s .slices-sound .ensures .0, s .slices-sound .ensures .1, l .before .due-facts .ensures .1 .0)
 
 returns : tie.Need-returns
 returns c =

@@ -46,8 +46,8 @@ plan-sound-requires c κs =
       few-cores = range .some-cores;
       few-rows = range .some-rows;
       listed = record {
-        due-long = ap length (tasks .1 all) ∙ dues-long (at .state .start) (tasksOf ls) ∙ slots-length ls;
-        rates-long = ap length (tasks .2 all) ∙ rates-long (tasksOf ls) ∙ slots-length ls;
+        due-long = ap length (tasks .1 .0 all) ∙ dues-long (at .state .start) (tasksOf ls) ∙ slots-length ls;
+        rates-long = ap length (tasks .1 .1 all) ∙ rates-long (tasksOf ls) ∙ slots-length ls;
       };
       bounds = length-take-le 64 ls (omega arith);
       long = omega arith;
@@ -68,7 +68,7 @@ returns-3 c =
       scalars = sym (c .before .before .before .before .before .before .before .before .before .before .before .scalars .ensures) ∙ not-false _ (c .before .before .before .before .before .before .before .before .before .before .if2 .left);
       each = sym (got .0) ∙ all;
     } in
-    decided (s .cores) (s .clock) (s .start) (s .used) (tasksOf ls) (s .count) (endsOf ls) w (slots-length ls) a (got .1 all) (got .2 all) (c .plan-sound .ensures)
+    decided (s .cores) (s .clock) (s .start) (s .used) (tasksOf ls) (s .count) (endsOf ls) w (slots-length ls) a (got .1 .0 all) (got .1 .1 all) (c .plan-sound .ensures)
 
 pub sound-spec : {M : Type 1} → statement M
 sound-spec =
