@@ -1,5 +1,7 @@
 // The six calls, once for both ways to hold the planner: its few numbers come by value, its lists and the words of the share table are
 // worked on where they lie. Each call checks them itself, and a refusal changes nothing.
+#![tactic(auto)]
+
 pub mod reason; // reason.rt: the first reason to refuse a call, by the numbers that are held
 pub mod number; // number.rt: the first reason to refuse a call on any table
 pub mod open; // open.rt: open

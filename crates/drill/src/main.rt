@@ -1,5 +1,7 @@
 // The drill program: a script of commands from standard input, and the planner's answers to standard output.
 // It reads, hands what it read to `script`, and writes what that printed; all that can be said of the answers is said there.
+#![tactic(auto)]
+
 ghost use Rattle.std.specs.Prelude.{suc, ◌≤◌, length};
 ghost use Rattle.rules.specs.Calls.{segment_words};
 ghost use Rattle.lines.specs.Lines.{line_bytes};

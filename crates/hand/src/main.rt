@@ -1,5 +1,7 @@
 // The part of document 01's 'Checked by hand' that is not proved as an example, and holder's three answers, run on the planner.
 // A line for each answer: `OK value count` or `NO number`; for holder `HELD slot until`, `IDLE until`, `IDLE` or `NO number`.
+#![tactic(auto)]
+
 use calls::Answer;
 use libc::STDOUT_FILENO;
 use planner::{Next, Planner};

@@ -1,4 +1,6 @@
 // The line of a row: its shares laid end to end, in slot order. Each routine is one walk along it.
+#![tactic(auto)]
+
 pub mod place; // place.rt: a place on the line, where it is cut into one stretch for each core
 pub mod cut; // cut.rt: the two parts of a cut
 pub mod lower; // lower.rt: shares less what has run

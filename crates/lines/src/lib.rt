@@ -1,4 +1,6 @@
 // A stream of bytes cut into lines, however it arrives in pieces. Of a line its first 64 bytes are stored.
+#![tactic(auto)]
+
 ghost use Rattle.std.specs.Prelude.{◌≡◌, ◌+◌, ◌≤◌, min, suc, length};
 ghost use Rattle.std.proofs.Math.Seq.{paste};
 ghost use Rattle.lines.specs.Lines.{line_bytes, line_end, Fills};

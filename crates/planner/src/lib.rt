@@ -1,5 +1,7 @@
 // The planner as a struct by value: its methods take `self` and hand back the next planner with the answer. Each copies the lists into a
 // local, makes the call on it, and builds the next struct; the calls themselves are those of `calls`.
+#![tactic(auto)]
+
 ghost use Rattle.std.specs.Prelude.{◌≡◌, [], length};
 ghost use Rattle.rules.specs.Calls.{declare, withdraw, release, advance};
 ghost use Rattle.wrap.specs.Holding.{told_by};

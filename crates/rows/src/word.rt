@@ -24,16 +24,16 @@ pub fn smaller(a: u64, b: u64) -> u64
 
 // Two words in one, which is zero only where both are: a test for zeros that needs no wider sum.
 pub fn joined(a: u32, b: u32) -> u32
-    ensures b_value { result ≡ 0 → a + b ≡ 0 }
-    ensures value { a + b ≡ 0 → result ≡ 0 }
+    ensures parts_zero { result ≡ 0 → a + b ≡ 0 }
+    ensures zero { a + b ≡ 0 → result ≡ 0 }
 {
     a | b
 }
 
 // Four words in one.
 pub fn joined_four(a: u32, b: u32, c: u32, d: u32) -> u32
-    ensures d_value { result ≡ 0 → a + b + (c + d) ≡ 0 }
-    ensures value { a + b + (c + d) ≡ 0 → result ≡ 0 }
+    ensures parts_zero { result ≡ 0 → a + b + (c + d) ≡ 0 }
+    ensures zero { a + b + (c + d) ≡ 0 → result ≡ 0 }
 {
     joined(joined(a, b), joined(c, d))
 }

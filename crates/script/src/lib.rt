@@ -1,4 +1,6 @@
 // The drill's work: a script of lines, in whatever pieces it arrives, to the planner's answers as text.
+#![tactic(auto)]
+
 mod answer; // answer.rt: one line to its answer
 mod stream; // stream.rt: pieces of a script to lines
 

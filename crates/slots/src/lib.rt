@@ -1,4 +1,6 @@
 // The slots: the word of those in use, the words of a task where they lie in the planner's lists, and whether each task is sound by itself.
+#![tactic(auto)]
+
 pub mod word; // word.rt: the word of slots in use
 pub mod task; // task.rt: the words of the tasks
 pub mod test; // test.rt: the clauses of a sound table about each task

@@ -1,6 +1,8 @@
 // The planner for a station in C or Rust: six calls on areas of words that the station lends. Each answers a refusal's number, 0 where the
 // call is done, and writes number, value and count into the result area. A call loads the five numbers of the state area, makes the call of
 // `calls` on the lists where they lie, and stores the numbers.
+#![tactic(auto)]
+
 mod write; // write.rt: the numbers of a state area, and an answer into a result area
 
 ghost use Rattle.std.specs.Prelude.{◌≡◌, [], length};

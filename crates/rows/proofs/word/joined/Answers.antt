@@ -2,15 +2,14 @@
 -- So it is zero exactly where the sum is.
 use Rattle.std.proofs.Common.{arith}
 use lib.Bits.{or_add_and, and_le_l, and_le_r}
-use Rattle.rows.proofs.word.joined.Statement.{statement}
-use Rattle.rows.proofs.word.joined.Tie as tie
+use Rattle.rows.proofs.word.joined.Goals as goal
 
-returns : tie.Need-returns
+pub returns : goal.returns
 returns c =
     let both = or_add_and c.args.a c.args.b in
     let left = and_le_l c.args.a c.args.b in
     let right = and_le_r c.args.a c.args.b in
-    ((λ e. omega arith), (λ e. omega arith))
-
-pub joined-spec : {M : Type 1} → statement M
-joined-spec = tie.close (tie.spec returns)
+    record {
+      parts_zero = (λ e. omega arith);
+      zero = (λ e. omega arith)
+    }
