@@ -17,14 +17,14 @@ ghost use Rattle.calls.specs.Called.{leaves, unchanged};
 use rules::State;
 
 // What a call answers: done, with its value and the count of segments; or refused, with the refusal's number.
-#[derive(Drop)]
+#[derive(Clone, Copy)]
 pub enum Answer {
     Done(u64, u64),
     Refused(u64),
 }
 
 // The next numbers, with the answer.
-#[derive(Drop)]
+#[derive(Clone, Copy)]
 pub struct Moved {
     pub state: State,
     pub answer: Answer,

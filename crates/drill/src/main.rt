@@ -15,7 +15,7 @@ use script::{feed_lines, finish};
 
 // Between two reads: the planner, how much is kept of the line that has no newline yet, and whether to read on; `broken` where
 // the output takes nothing more.
-#[derive(Drop)]
+#[derive(Clone, Copy)]
 struct Running {
     planner: Planner,
     len: usize,

@@ -10,7 +10,7 @@ use rules::SLOTS;
 // of 32 bits.
 fn reach(e: u64, part: u64, span: u64) -> u64
     requires cut { Cut part span }
-    requires e_bound { e ≤ slot_count * 4294967295 }
+    requires end_bound { e ≤ slot_count * 4294967295 }
     ensures { result ≡ first_to part span e }
 {
     e * part / span
@@ -21,7 +21,7 @@ fn reach(e: u64, part: u64, span: u64) -> u64
 fn reached(was: u64, e: u64, share: u64, part: u64, span: u64) -> u64
     requires cut { Cut part span }
     requires share_bound { e + share ≤ slot_count * 4294967295 }
-    requires was_value { was ≡ first_to part span e }
+    requires was_reached { was ≡ first_to part span e }
     ensures { result ≡ first_to part span (e + share) }
 {
     if share == 0 {
@@ -52,7 +52,7 @@ pub fn cut_first(row: &mut [u32], part: u64, span: u64)
 // first part leaves of each share.
 pub fn cut_rest(two: &mut [u32])
     requires two_len { length two.old ≡ 2 * slot_count }
-    requires by_index { (i : ℕ) → i < slot_count → get_or two.old i 0 ≤ get_or two.old (slot_count + i) 0 }
+    requires first_below_second { (i : ℕ) → i < slot_count → get_or two.old i 0 ≤ get_or two.old (slot_count + i) 0 }
     ensures { two.new ≡ take slot_count two.old ++
         less (λ i. get_or (take slot_count two.old) i 0) 0 (drop slot_count two.old) }
 {

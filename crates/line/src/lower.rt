@@ -11,7 +11,7 @@ use rules::SLOTS;
 pub fn lower(row: &mut [u32], slice: u64, run: u64)
     requires row_len { length row.old ≡ slot_count }
     requires lower { Lower slice run }
-    requires by_index { (i : ℕ) → get_or row.old i 0 ≤ slice }
+    requires shares_fit { (i : ℕ) → get_or row.old i 0 ≤ slice }
     ensures { row.new ≡ lower_row slice run row.old }
 {
     let mut place = Place { core: 0, at: 0 };

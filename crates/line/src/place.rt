@@ -6,7 +6,7 @@ use rows::word::smaller;
 
 // A place on the line: the core in whose stretch it lies, and the grains into that stretch. Kept so, a step divides
 // nothing.
-#[derive(Drop)]
+#[derive(Clone, Copy)]
 pub struct Place {
     pub core: u64,
     pub at: u64,

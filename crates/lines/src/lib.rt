@@ -13,7 +13,7 @@ const NEWLINE: u8 = 10;
 
 // What is kept of a line, after a piece was taken into it: its length, up to 65; how many bytes of the piece went with it; and
 // whether a newline ended it.
-#[derive(Drop)]
+#[derive(Clone, Copy)]
 pub struct Filled {
     pub len: usize,
     pub used: usize,
@@ -55,8 +55,8 @@ fn line_end(piece: &[u8]) -> usize
 
 // The first n bytes of a piece, copied to a place in the line.
 fn copy(line: &mut [u8], at: usize, piece: &[u8], n: usize)
-    requires n_in_bounds { at + n ≤ length line.old }
-    requires n_in_bounds_2 { n ≤ length piece.now }
+    requires fits_line { at + n ≤ length line.old }
+    requires fits_piece { n ≤ length piece.now }
     ensures { line.new ≡ paste line.old at piece.now n }
 {
     let mut i: usize = 0;

@@ -8,7 +8,7 @@ pub mod give; // give.rt: the new job's shares
 pub mod replan; // replan.rt: the three steps of a release
 
 // A job that is released: its task's slot and rate, and its deadline.
-#[derive(Drop)]
+#[derive(Clone, Copy)]
 pub struct NewJob {
     pub slot: usize,
     pub rate: u64,

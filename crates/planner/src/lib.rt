@@ -14,14 +14,14 @@ use rules::{LIST_WORDS, State};
 use wrap::look::Holder;
 
 // "cores, clock, plan start, slots in use as one 64-bit word", the number of boundaries; and the words of 64 boundaries and 64 tasks.
-#[derive(Drop)]
+#[derive(Clone, Copy)]
 pub struct Planner {
     pub state: State,
     pub lists: [u64; LIST_WORDS],
 }
 
 // The next planner, with the answer.
-#[derive(Drop)]
+#[derive(Clone, Copy)]
 pub struct Next {
     pub planner: Planner,
     pub answer: Answer,

@@ -10,7 +10,7 @@ const MARK: u32 = 2147483648;
 
 // What a sound table asks of a row, in one pass: whether each share fits, the shares added up where they do, the rates
 // of the jobs that are due at the slice's end or after it, and how many are due at it.
-#[derive(Drop)]
+#[derive(Clone, Copy)]
 pub struct RowFacts {
     pub fits: bool,
     pub sum: u64,

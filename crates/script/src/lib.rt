@@ -12,7 +12,7 @@ pub use stream::{feed, feed_lines, finish};
 pub const ANSWER_BYTES: usize = 8192;
 
 // The state after a line, and how many bytes were printed.
-#[derive(Drop)]
+#[derive(Clone, Copy)]
 pub struct Reply {
     pub planner: Planner,
     pub used: usize,
@@ -20,7 +20,7 @@ pub struct Reply {
 
 // The state after some bytes of a script: how much is kept of the line that has no newline yet, how many bytes were taken, and how
 // many were printed.
-#[derive(Drop)]
+#[derive(Clone, Copy)]
 pub struct Fed {
     pub planner: Planner,
     pub len: usize,

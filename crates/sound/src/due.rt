@@ -8,7 +8,7 @@ use rows::word::wide;
 use rules::SLOTS;
 
 // What an end asks of the deadlines: the rates of the jobs due at it or after it, added up, and how many are due at it.
-#[derive(Drop)]
+#[derive(Clone, Copy)]
 pub struct DueFacts {
     pub owed: u64,
     pub hits: u64,

@@ -11,14 +11,14 @@ use slots::test::since;
 use table::row::row_look;
 
 // Whether slices are sound, and how many jobs are due at their ends.
-#[derive(Drop)]
+#[derive(Clone, Copy)]
 pub struct SliceFacts {
     pub ok: bool,
     pub hits: u64,
 }
 
 // The time of a slice, and the plan start.
-#[derive(Drop)]
+#[derive(Clone, Copy)]
 pub struct Span {
     pub start: u64,
     pub from: u64,

@@ -9,7 +9,7 @@ use rows::word::{smaller, wide};
 use rules::SLOTS;
 
 // Who holds a core in a grain: a slot, with the grain after the last of its segment, in grains after the plan start.
-#[derive(Drop)]
+#[derive(Clone, Copy)]
 pub enum Found {
     Held(u64, u64),
     Nobody,

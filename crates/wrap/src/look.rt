@@ -8,7 +8,7 @@ use rules::{GRAINS, SLOTS, State};
 
 // Who holds a core: a slot, until a grain; nobody, until the grain at which slice 0 ends; nobody, without a limit; or a
 // refusal.
-#[derive(Drop)]
+#[derive(Clone, Copy)]
 pub enum Holder {
     Held(u64, u64),
     IdleUntil(u64),

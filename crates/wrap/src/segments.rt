@@ -12,7 +12,7 @@ use rows::word::{smaller, wide};
 use rules::SLOTS;
 
 // A segment: the core, the slot that holds it, the first grain, and the grain after the last.
-#[derive(Drop)]
+#[derive(Clone, Copy)]
 pub struct Segment {
     pub core: u64,
     pub slot: u64,
@@ -21,7 +21,7 @@ pub struct Segment {
 }
 
 // A window on the wrap: the grain of the plan start, and from where to where, in grains after it.
-#[derive(Drop)]
+#[derive(Clone, Copy)]
 pub struct Window {
     pub base: u64,
     pub from: u64,

@@ -1,0 +1,69 @@
+-- `lower` lays the row again along the line of what has not run: the grains run before a place are known from the place.
+-- By the rules' law a row less what has run is the row along that line.
+use mathlib.Core.Path.{◌≡◌, sym, ◌∙◌}
+use mathlib.Core.List.{List}
+use Prim.Native.Nat.{ℕ, ◌-◌, ◌<◌, ◌≤◌}
+use native.Mathlib.Nat.{sub-le, le_trans}
+use native.Mathlib.Omega.{arith}
+use lib.ListN.{length, get_or}
+use borrow.Author.Rules.{rules}
+use Rattle.rules.specs.Slices.{relaid}
+use Rattle.rules.proofs.Front.{back}
+use Rattle.rules.proofs.Wrap.{lower_relaid}
+use Rattle.line.specs.declared.place.Place.{Place}
+use Rattle.line.specs.Line.{on_line, run_before}
+use Rattle.line.proofs.Laying.{Laying, laying_none, laying_more, laying_all, small-set, Turn}
+use Rattle.line.proofs.Line.{line-start, run_start, walk}
+use Rattle.line.proofs.lower.lower.Goals as goal
+use Rattle.line.proofs.lower.lower.Goals.{After-run_before-to}
+
+-- what a turn has run: from the place that it finds to the next
+walked : (c : After-run_before-to)
+    → let k = c in
+    Turn (back k.args.slice k.args.run) (on_line k.args.slice k.loop-i.place) c.wide-share.result
+    k.loop-i.was c.run_before-to.result
+walked c =
+    let k = c in
+    let next = c.beyond-place in
+    rw (k.loop-i.invariant.was_is, c.run_before-to.ensures) (walk k.requires.lower k.loop-i.place next.result k.loop-i.invariant.inside next.ensures.inside next.ensures.is)
+
+pub loop-i-init : goal.loop-i-init
+loop-i-init c =
+    record {
+      within = search rules;
+      long = search rules;
+      small = c.requires.shares_fit;
+      inside = omega arith;
+      far = search rules;
+      was_is = sym (run_start c.args.run);
+      laid = rw (line-start c.args.slice) (laying_none _ _);
+    }
+
+pub beyond-place-requires : goal.beyond-place-requires
+beyond-place-requires c = omega (arith, c.loop-i.invariant.small c.loop-i.i)
+
+pub overflow_sub-to : goal.overflow_sub-to
+overflow_sub-to c = omega (arith, walked (goal.at.overflow_sub-to c).After-run_before-to)
+
+pub overflow_sub-share : goal.overflow_sub-share
+overflow_sub-share c = omega (arith, walked (goal.at.overflow_sub-share c).After-run_before-to)
+
+pub loop-i-preserved : goal.loop-i-preserved
+loop-i-preserved c =
+    let share = c.wide-share in
+    let next = c.beyond-place in
+    let small : share.result ≤ c.args.slice = omega (arith, c.loop-i.invariant.small c.loop-i.i) in
+    let stored : c.narrow.result ≤ c.args.slice = le_trans (rw c.narrow.ensures (sub-le share.result _)) small in
+    record {
+      within = search rules;
+      long = search rules;
+      small = small-set c.loop-i.row c.loop-i.i c.narrow.result c.loop-i.invariant.small stored;
+      inside = next.ensures.inside;
+      far = omega arith;
+      was_is = c.run_before-to.ensures;
+      laid = rw next.ensures.is (laying_more c.loop-i.invariant.laid _ _ (omega arith) share.ensures.value (cc (walked (goal.at.loop-i-preserved c).After-run_before-to).rest));
+    }
+
+pub returns : goal.returns
+returns c =
+    laying_all c.loop-i.invariant.laid (omega arith) ∙ sym (lower_relaid c.requires.lower.some c.args.run c.requires.lower.within c.args.row.now c.requires.shares_fit)

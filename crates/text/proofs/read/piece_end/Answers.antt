@@ -1,0 +1,22 @@
+-- `piece_end`: where the piece from i on ends, the piece from the beginning ends; a space or the line's end stops it.
+use mathlib.Core.Path.{◌≡◌}
+use Prim.Native.Nat.{◌+◌, ◌-◌, ◌≤◌}
+use native.Mathlib.Omega.{arith}
+use borrow.Author.Rules.{rules}
+use lib.ListN.{length, drop, length-drop}
+use Rattle.text.specs.Handed.{first_piece}
+use Rattle.text.proofs.Pieces.{piece_here, piece_next, piece_within}
+use Rattle.text.proofs.read.piece_end.Goals as goal
+
+pub returns-then-line-i-eq32 : goal.returns-then-line-i-eq32
+returns-then-line-i-eq32 c =
+    omega (arith, piece_here c.args.line.now c.loop-i.i (omega arith) c.if-line-i-eq32.true, c.loop-i.invariant.2)
+
+pub loop-i-preserved : goal.loop-i-preserved
+loop-i-preserved c =
+    omega (arith, piece_next c.args.line.now c.loop-i.i (omega arith) c.if-line-i-eq32.false, c.loop-i.invariant.2)
+
+pub returns : goal.returns
+returns c =
+    let line = c.args.line.now in
+    omega (arith, c.loop-i.invariant.2, simp length-drop at (piece_within (drop c.loop-i.i line)))
