@@ -29,7 +29,7 @@ pub fn with_boundary(
 ) -> usize
     requires plan_from { PlanFrom start ends.old count shares.old }
     requires start_lt_d { start < d }
-    requires fact { (is_end d (slices_in ends.old count shares.old) ≡ true) ⊎ (count < row_count) }
+    requires room { (is_end d (slices_in ends.old count shares.old) ≡ true) ⊎ (count < row_count) }
     ensures planned { Planned
         (with_end d start (slices_in ends.old count shares.old))
         ends.new result shares.new }
@@ -55,7 +55,7 @@ pub fn drop_boundary(shares: &mut [u32], ends: &mut [u64], count: usize)
     requires share_words_in_bounds { share_words ≤ length shares.old }
     requires planned { Planned (slices_in ends.old count shares.old) ends.old count shares.old }
     requires count_nonzero { 0 < count }
-    ensures planned_2 { Planned
+    ensures left { Planned
         (drop 1 (slices_in ends.old count shares.old))
         ends.new (count - 1) shares.new }
     ensures shares_unchanged { drop share_words shares.new ≡ drop share_words shares.old }

@@ -25,7 +25,7 @@ fn row_first(shares: &mut [u32], k: usize, part: u64, span: u64)
 fn row_rest(shares: &mut [u32], k: usize)
     requires share_words_in_bounds { share_words ≤ length shares.old }
     requires k_bound { k + 1 < row_count }
-    requires by_index { (i : ℕ) → get_or (row_at k shares.old) i 0 ≤ get_or (row_at (k + 1) shares.old) i 0 }
+    requires first_below_second { (i : ℕ) → get_or (row_at k shares.old) i 0 ≤ get_or (row_at (k + 1) shares.old) i 0 }
     ensures { RowSet shares.old (k + 1)
         (less (λ i. get_or (row_at k shares.old) i 0) 0 (row_at (k + 1) shares.old))
         shares.new }

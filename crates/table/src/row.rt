@@ -59,7 +59,7 @@ pub fn row_lower(shares: &mut [u32], k: usize, slice: u64, run: u64)
     requires share_words_in_bounds { share_words ≤ length shares.old }
     requires k_lt_row_count { k < row_count }
     requires lower { Lower slice run }
-    requires by_index { (i : ℕ) → get_or (row_at k shares.old) i 0 ≤ slice }
+    requires shares_fit { (i : ℕ) → get_or (row_at k shares.old) i 0 ≤ slice }
     ensures { RowSet shares.old k (lower_row slice run (row_at k shares.old))
         shares.new }
 {

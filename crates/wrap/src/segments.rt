@@ -44,7 +44,7 @@ fn past(grain: u64, end: u64) -> u64
 // A slot's segment on the core where its stretch of the line begins.
 fn on_core(slot: usize, place: Place, share: u64, slice: u64) -> Segment
     requires { Step slice place share }
-    ensures result_value { segment_of result ≡ on_core slice slot (on_line slice place) share }
+    ensures value { segment_of result ≡ on_core slice slot (on_line slice place) share }
     ensures first_le_slice { result.first ≤ slice }
 {
     Segment {
@@ -58,7 +58,7 @@ fn on_core(slot: usize, place: Place, share: u64, slice: u64) -> Segment
 // A slot's segment on the next core, where its stretch goes past the end of a core's.
 fn on_next(slot: usize, place: Place, share: u64, slice: u64) -> Segment
     requires { Step slice place share }
-    ensures result_value { segment_of result ≡ on_next slice slot (on_line slice place) share }
+    ensures value { segment_of result ≡ on_next slice slot (on_line slice place) share }
     ensures first_le_slice { result.first ≤ slice }
 {
     Segment {
