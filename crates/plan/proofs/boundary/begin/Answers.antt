@@ -5,23 +5,19 @@ use Prim.Native.Nat.{suc, ◌-◌}
 use native.Mathlib.Omega.{arith}
 use borrow.Author.Rules.{rules}
 use Rattle.plan.specs.Planned.{begin_of}
-use Rattle.plan.proofs.boundary.begin.Statement.{statement}
-use Rattle.plan.proofs.boundary.begin.Tie as tie
+use Rattle.plan.proofs.boundary.begin.Goals as goal
 
-returns : tie.Need-returns
+pub returns-then-k-eq0 : goal.returns-then-k-eq0
 unfolding begin_of
-returns c =
-    let at = c.before.args in
+returns-then-k-eq0 c =
+    let at = c.args in
     let first : at.k ≡ 0 = omega arith in
     rw first
 
-returns-2 : tie.Need-returns-2
+pub returns-else-k-eq0 : goal.returns-else-k-eq0
 unfolding begin_of
-returns-2 c =
-    let at = c.before.before.args in
+returns-else-k-eq0 c =
+    let at = c.args in
     let k = at.k - 1 in
     let next : at.k ≡ suc k = omega arith in
     sym (ap (λ n. begin_of at.start n at.ends.now) next)
-
-pub begin-spec : {M : Type 1} → statement M
-begin-spec = tie.close (tie.spec (λ c. search rules) (λ c. search rules) (λ c. search rules) returns returns-2)

@@ -4,17 +4,16 @@ use Prim.Native.Nat.{ℕ, ◌+◌, ◌-◌, ◌*◌, ◌≤◌}
 use native.Mathlib.Nat.{mul-le-mul}
 use native.Mathlib.Omega.{arith}
 use borrow.Author.Rules.{rules}
-use Rattle.plan.proofs.give.gift.Statement.{statement}
-use Rattle.plan.proofs.give.gift.Tie as tie
+use Rattle.plan.proofs.give.gift.Goals as goal
 
 most : (rate lo end : ℕ) → rate ≤ 1000 → end ≤ lo + 60000 → rate * (end - lo) ≤ 60000000
 most rate lo end slow soon = let short : end - lo ≤ 60000 = omega arith in mul-le-mul slow short
 
-mul-result : tie.Need-overflow-mul-result
-mul-result c = omega (arith, most c.args.rate c.args.lo c.args.end c.requires.0 c.requires.1.1)
+pub overflow_mul-result : goal.overflow_mul-result
+overflow_mul-result c = omega (arith, most c.args.rate c.args.lo c.args.end c.requires.rate_bound c.requires.end_bound)
 
-returns : tie.Need-returns
-returns c = (refl, most c.args.rate c.args.lo c.args.end c.requires.0 c.requires.1.1)
-
-pub gift-spec : {M : Type 1} → statement M
-gift-spec = tie.close (tie.spec (λ c. search rules) mul-result returns)
+pub returns : goal.returns
+returns c = record {
+      value = refl;
+      upper_bound = most c.args.rate c.args.lo c.args.end c.requires.rate_bound c.requires.end_bound
+    }

@@ -1,0 +1,74 @@
+-- `give` raises the new job's slot in each row: after k turns the first k rows are those of `given`, and no other has changed.
+-- What a turn adds fits, since a share is small and a gift is.
+use mathlib.Core.Path.{◌≡◌, refl, ◌∙◌}
+use Prim.Native.Nat.{◌-◌, ◌≤◌}
+use native.Mathlib.Numerals.{add-one}
+use native.Mathlib.Omega.{arith}
+use lib.ListN.{length, drop, get_or}
+use borrow.Author.Rules.{rules}
+use borrow.Author.Tests.{le-leb}
+use Rattle.rules.specs.Release.{given}
+use Rattle.rules.specs.Words.{rows_of, rows_in}
+use Rattle.rows.proofs.Moves.{Mixed, mixed_none}
+use Rattle.plan.specs.Planned.{slices_in, begin_of}
+use Rattle.plan.proofs.Planned.{planned-long, planned-few, ready_at}
+use Rattle.plan.proofs.Given.{given-fits, given_more, given-all, given_stop}
+use Rattle.plan.proofs.give.give.Goals as goal
+
+pub loop-k-init : goal.loop-k-init
+unfolding begin_of
+loop-k-init c = (search rules, refl, search rules, search rules, mixed_none _ _)
+
+pub bounds-ends-k : goal.bounds-ends-k
+bounds-ends-k c = let p = c.requires.plan_from.planned in omega (arith, planned-long p, planned-few p)
+
+pub returns-then-job-end : goal.returns-then-job-end
+returns-then-job-end c =
+    let at = c.args in
+    record {
+      planned = given_stop at.job.slot at.job.rate at.job.deadline c.requires.plan_from.planned c.requires.plan_from.ready c.loop-k.invariant.4 (omega arith) (omega arith);
+      shares_unchanged = c.loop-k.invariant.3
+    }
+
+pub gift-requires : goal.gift-requires
+gift-requires c =
+    let here = ready_at c.requires.plan_from.planned c.requires.plan_from.ready c.loop-k.k (omega arith) in
+    record {
+      rate_bound = c.requires.rate_bound;
+      lo_le_end = omega (arith, here.rises, c.loop-k.invariant.1);
+      end_bound = omega (arith, here.from, here.soon, c.loop-k.invariant.1)
+    }
+
+pub row_add-requires : goal.row_add-requires
+row_add-requires c =
+    let at = c.args in
+    let few : at.count ≤ 64 = planned-few c.requires.plan_from.planned in
+    let fits = given-fits at.job.slot at.job.rate at.job.deadline c.requires.plan_from.planned c.requires.plan_from.ready c.loop-k.shares c.loop-k.invariant.4 (omega arith) in
+    record {
+      share_words_in_bounds = search rules;
+      k_lt_row_count = search rules;
+      slot_lt_slot_count = search rules;
+      grains_bound = omega (arith, fits, c.gift.ensures.upper_bound)
+    }
+
+pub loop-k-preserved : goal.loop-k-preserved
+unfolding begin_of
+loop-k-preserved c =
+    let at = c.args in
+    let got = c.row_add.ensures in
+    let more = given_more at.job.slot at.job.rate at.job.deadline c.requires.plan_from.planned c.requires.plan_from.ready c.loop-k.shares c.loop-k.invariant.4 (omega arith) in (
+      search rules,
+      rw add-one,
+      search rules,
+      got.past ∙ c.loop-k.invariant.3,
+      rw (got.rows, c.gift.ensures.value, c.loop-k.invariant.1) (rw (le-leb (get_or at.ends.now c.loop-k.k 0) at.job.deadline (omega arith)) at more),
+    )
+
+pub returns : goal.returns
+returns c =
+    let at = c.args in
+    let end : c.loop-k.k ≡ at.count = omega arith in
+    record {
+      planned = given-all at.job.slot at.job.rate at.job.deadline c.requires.plan_from.planned c.requires.plan_from.ready (rw end at c.loop-k.invariant.4);
+      shares_unchanged = c.loop-k.invariant.3
+    }
