@@ -26,6 +26,7 @@ pub struct Span {
 }
 
 // What one pass over the row gave, for a slice that is `long` ticks long.
+#[tactic(auto, unfolding(crate::specs::Due::row_test, rules::specs::Sound::every))]
 fn row_fits(row: RowFacts, long: u64) -> bool
     requires long_le_longest_period { long ≤ longest_period }
     requires owed_bound { row.owed ≤ 4294967295 }

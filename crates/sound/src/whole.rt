@@ -10,6 +10,7 @@ use slots::test::tasks_sound;
 use table::zero::rows_zero;
 
 // "1 to 16 cores; clock in range; .. plan start is at most the clock"; and no more boundaries than rows.
+#[tactic(auto, unfolding(crate::specs::Due::scalars_test, rules::specs::Sound::every))]
 fn scalars(state: State) -> bool
     ensures { result ≡ scalars_test state.cores state.clock state.start state.count }
 {
@@ -37,6 +38,7 @@ fn load_sound(all: DueFacts, state: State) -> bool
 }
 
 // The clauses about all slices, once cores and count are in range.
+#[tactic(auto, unfolding(crate::specs::Due::plan_test, rules::specs::Sound::every))]
 fn plan_sound(state: State, due: &[u32], rates: &[u32], ends: &[u64], shares: &[u32]) -> bool
     requires { Planning state.cores state.count due.now rates.now ends.now shares.now }
     ensures { result ≡ plan_test state.cores state.clock state.start due.now rates.now

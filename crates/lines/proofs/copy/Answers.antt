@@ -1,11 +1,10 @@
 -- `copy` puts the piece's first n bytes over the line's, one a turn. Assumes nothing.
 use mathlib.Core.Path.{◌≡◌, refl}
-use Prim.Native.Nat.{◌-◌, ◌≤◌}
 use native.Mathlib.Omega.{arith}
 use borrow.Author.Rules.{rules}
-use lib.ListN.{length, length-set}
+use lib.ListN.{length-set}
 use native.Mathlib.Numerals.{add-one}
-use lib.Seq.{paste, paste-zero, paste-suc}
+use lib.Seq.{paste-zero, paste-suc}
 use Rattle.lines.proofs.copy.Goals as goal
 
 pub loop-i-init : goal.loop-i-init

@@ -1,11 +1,8 @@
 -- `copy` puts the piece's first n bytes over the line's, one a turn. Assumes nothing.
-use mathlib.Core.Path.{◌≡◌, refl}
+use mathlib.Core.Path.{◌≡◌}
 use Prim.Native.Nat.{◌-◌, ◌≤◌}
-use native.Mathlib.Omega.{arith}
-use borrow.Author.Rules.{rules}
-use lib.ListN.{length, length-set}
-use native.Mathlib.Numerals.{add-one}
-use lib.Seq.{paste, paste-zero, paste-suc}
+use lib.ListN.{length}
+use lib.Seq.{paste}
 use Rattle.lines.proofs.copy.Given as goal
 
 abbrev pub invariant-loop-i : goal.invariant-loop-i

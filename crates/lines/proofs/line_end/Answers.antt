@@ -1,10 +1,5 @@
 -- `line_end` finds the first newline: what is left of the piece tells how far it still is. Assumes nothing.
-use mathlib.Core.Path.{◌≡◌}
-use Prim.Native.Nat.{◌+◌, ◌-◌, ◌≤◌}
 use native.Mathlib.Omega.{arith}
-use borrow.Author.Rules.{rules}
-use lib.ListN.{length, drop}
-use Rattle.lines.specs.Lines.{line_end}
 use Rattle.lines.proofs.Ends.{end_here, end-next, end_last}
 use Rattle.lines.proofs.line_end.Goals as goal
 
@@ -13,7 +8,7 @@ returns-then-piece-i-eq-NEWLINE c =
     let here = end_here c.args.piece.now c.loop-i.i (omega arith) c.if-piece-i-eq-NEWLINE.true in
     record {
       value = omega (arith, c.loop-i.invariant);
-      upper_bound = omega (arith, c.loop-i.invariant)
+      upper_bound = omega (arith, c.loop-i.invariant);
     }
 
 pub loop-i-preserved : goal.loop-i-preserved

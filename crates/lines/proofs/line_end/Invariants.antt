@@ -1,11 +1,8 @@
 -- `line_end` finds the first newline: what is left of the piece tells how far it still is. Assumes nothing.
 use mathlib.Core.Path.{◌≡◌}
 use Prim.Native.Nat.{◌+◌, ◌-◌, ◌≤◌}
-use native.Mathlib.Omega.{arith}
-use borrow.Author.Rules.{rules}
 use lib.ListN.{length, drop}
 use Rattle.lines.specs.Lines.{line_end}
-use Rattle.lines.proofs.Ends.{end_here, end-next, end_last}
 use Rattle.lines.proofs.line_end.Given as goal
 
 abbrev pub invariant-loop-i : goal.invariant-loop-i

@@ -1,11 +1,10 @@
 -- `cut_first` lays the row again along the first part's line: the share stored is how much further the part reaches.
 -- That is never less than nothing, nor more than the share, so it fits its word.
-use Prim.Native.Nat.{◌-◌}
 use native.Mathlib.Omega.{arith}
 use borrow.Author.Rules.{rules}
 use Rattle.rules.specs.Slices.{first_part}
 use Rattle.line.proofs.Laying.{laying_more, laying_all}
-use Rattle.line.proofs.Cutting.{Cutting, cutting_none, cut_turn}
+use Rattle.line.proofs.Cutting.{cutting_none, cut_turn}
 use Rattle.line.proofs.cut.cut_first.Goals as goal
 
 pub loop-i-init : goal.loop-i-init

@@ -1,15 +1,11 @@
 -- `cut_first` lays the row again along the first part's line: the share stored is how much further the part reaches.
 -- That is never less than nothing, nor more than the share, so it fits its word.
 use Prim.Native.Nat.{◌-◌}
-use native.Mathlib.Omega.{arith}
-use borrow.Author.Rules.{rules}
-use Rattle.rules.specs.Slices.{first_part}
-use Rattle.line.proofs.Laying.{laying_more, laying_all}
-use Rattle.line.proofs.Cutting.{Cutting, cutting_none, cut_turn}
+use Rattle.line.proofs.Cutting.{Cutting}
 use Rattle.line.proofs.cut.cut_first.Given as goal
 
 abbrev pub invariant-loop-i : goal.invariant-loop-i
-invariant-loop-i l =  Cutting l.part l.span l.initial.row l.e l.was l.i l.row
+invariant-loop-i l = Cutting l.part l.span l.initial.row l.e l.was l.i l.row
 
 abbrev pub decreases-loop-i : goal.decreases-loop-i
-decreases-loop-i l =  64 - l.i
+decreases-loop-i l = 64 - l.i

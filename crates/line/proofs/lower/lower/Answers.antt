@@ -1,18 +1,14 @@
 -- `lower` lays the row again along the line of what has not run: the grains run before a place are known from the place.
 -- By the rules' law a row less what has run is the row along that line.
-use mathlib.Core.Path.{◌≡◌, sym, ◌∙◌}
-use mathlib.Core.List.{List}
-use Prim.Native.Nat.{ℕ, ◌-◌, ◌<◌, ◌≤◌}
+use mathlib.Core.Path.{sym, ◌∙◌}
+use Prim.Native.Nat.{◌≤◌}
 use native.Mathlib.Nat.{sub-le, le_trans}
 use native.Mathlib.Omega.{arith}
-use lib.ListN.{length, get_or}
 use borrow.Author.Rules.{rules}
-use Rattle.rules.specs.Slices.{relaid}
 use Rattle.rules.proofs.Front.{back}
 use Rattle.rules.proofs.Wrap.{lower_relaid}
-use Rattle.line.specs.declared.place.Place.{Place}
-use Rattle.line.specs.Line.{on_line, run_before}
-use Rattle.line.proofs.Laying.{Laying, laying_none, laying_more, laying_all, small-set, Turn}
+use Rattle.line.specs.Line.{on_line}
+use Rattle.line.proofs.Laying.{laying_none, laying_more, laying_all, small-set, Turn}
 use Rattle.line.proofs.Line.{line-start, run_start, walk}
 use Rattle.line.proofs.lower.lower.Goals as goal
 use Rattle.line.proofs.lower.lower.Goals.{After-run_before-to}

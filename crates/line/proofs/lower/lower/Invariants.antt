@@ -1,19 +1,14 @@
 -- `lower` lays the row again along the line of what has not run: the grains run before a place are known from the place.
 -- By the rules' law a row less what has run is the row along that line.
-use mathlib.Core.Path.{◌≡◌, sym, ◌∙◌}
+use mathlib.Core.Path.{◌≡◌}
 use mathlib.Core.List.{List}
 use Prim.Native.Nat.{ℕ, ◌-◌, ◌<◌, ◌≤◌}
-use native.Mathlib.Nat.{sub-le, le_trans}
-use native.Mathlib.Omega.{arith}
 use lib.ListN.{length, get_or}
-use borrow.Author.Rules.{rules}
 use Rattle.rules.specs.Slices.{relaid}
 use Rattle.rules.proofs.Front.{back}
-use Rattle.rules.proofs.Wrap.{lower_relaid}
 use Rattle.line.specs.declared.place.Place.{Place}
 use Rattle.line.specs.Line.{on_line, run_before}
-use Rattle.line.proofs.Laying.{Laying, laying_none, laying_more, laying_all, small-set, Turn}
-use Rattle.line.proofs.Line.{line-start, run_start, walk}
+use Rattle.line.proofs.Laying.{Laying}
 use Rattle.line.proofs.lower.lower.Given as goal
 
 pub record Lowering (T x : ℕ) (whole : List ℕ) (place : Place) (was i : ℕ) (row : List ℕ) : Type 0 where
@@ -26,7 +21,7 @@ pub record Lowering (T x : ℕ) (whole : List ℕ) (place : Place) (was i : ℕ)
   pub laid : Laying (back T x) (relaid (back T x) 0 whole) i (on_line T place) row
 
 abbrev pub invariant-loop-i : goal.invariant-loop-i
-invariant-loop-i l =  Lowering l.slice l.run l.initial.row l.place l.was l.i l.row
+invariant-loop-i l = Lowering l.slice l.run l.initial.row l.place l.was l.i l.row
 
 abbrev pub decreases-loop-i : goal.decreases-loop-i
-decreases-loop-i l =  64 - l.i
+decreases-loop-i l = 64 - l.i

@@ -1,7 +1,6 @@
 -- `beyond` gives the place one share further along the line: the same for a share of nothing.
 -- Where the share goes past the stretch's end the core is one more and T grains come off, which is the same sum.
 use native.Mathlib.Omega.{arith}
-use borrow.Author.Rules.{rules}
 use Rattle.line.specs.Line.{on_line}
 use Rattle.line.proofs.place.beyond.Goals as goal
 

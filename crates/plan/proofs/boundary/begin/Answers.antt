@@ -3,7 +3,6 @@
 use mathlib.Core.Path.{◌≡◌, sym, ap}
 use Prim.Native.Nat.{suc, ◌-◌}
 use native.Mathlib.Omega.{arith}
-use borrow.Author.Rules.{rules}
 use Rattle.plan.specs.Planned.{begin_of}
 use Rattle.plan.proofs.boundary.begin.Goals as goal
 

@@ -25,31 +25,31 @@ here k = record { planned = k.requires.plan_from.planned; ready = k.requires.pla
 
 pub put_in-requires : goal.put_in-requires
 put_in-requires c = record {
-      ends_len = (wide (goal.at.put_in-requires c).Start).0;
-      k_le_count = search rules;
-      count_lt_row_count = with_room (here (goal.at.put_in-requires c).After-place-at) (λ l e. omega arith)
-    }
+  ends_len = (wide (goal.at.put_in-requires c).Start).0;
+  k_le_count = search rules;
+  count_lt_row_count = with_room (here (goal.at.put_in-requires c).After-place-at) (λ l e. omega arith);
+}
 
 pub returns-then-at-count : goal.returns-then-at-count
 returns-then-at-count c = record {
-      planned = rw c.put_in.ensures (with_new (here (goal.at.returns-then-at-count c).After-place-at) (λ l e. omega arith) (omega arith));
-      shares_unchanged = refl
-    }
+  planned = rw c.put_in.ensures (with_new (here (goal.at.returns-then-at-count c).After-place-at) (λ l e. omega arith) (omega arith));
+  shares_unchanged = refl;
+}
 
 pub bounds-ends-at : goal.bounds-ends-at
 bounds-ends-at c = omega (arith, wide (goal.at.bounds-ends-at c).Start)
 
 pub returns-then-end-d : goal.returns-then-end-d
 returns-then-end-d c = record {
-      planned = with_there (here (goal.at.returns-then-end-d c).After-place-at) (omega arith) (omega arith);
-      shares_unchanged = refl
-    }
+  planned = with_there (here (goal.at.returns-then-end-d c).After-place-at) (omega arith) (omega arith);
+  shares_unchanged = refl;
+}
 
 pub begin-lo-requires : goal.begin-lo-requires
 begin-lo-requires c = record {
-      ends_len = (wide (goal.at.begin-lo-requires c).Start).0;
-      k_lt_row_count = omega (arith, wide (goal.at.begin-lo-requires c).Start)
-    }
+  ends_len = (wide (goal.at.begin-lo-requires c).Start).0;
+  k_lt_row_count = omega (arith, wide (goal.at.begin-lo-requires c).Start);
+}
 
 pub overflow_sub-d : goal.overflow_sub-d
 overflow_sub-d c = omega (arith, inside (here (goal.at.overflow_sub-d c).After-place-at) (λ l e. omega arith) (omega arith), c.begin-lo.ensures)
@@ -64,15 +64,15 @@ cut_row-requires c =
       share_words_in_bounds = search rules;
       k_lt_n = search rules;
       n_lt_row_count = with_room q (λ l e. omega arith);
-      cut = rw c.begin-lo.ensures (cut_asked q (λ l e. omega arith) (omega arith))
+      cut = rw c.begin-lo.ensures (cut_asked q (λ l e. omega arith) (omega arith));
     }
 
 pub put_in-requires-2 : goal.put_in-requires-2
 put_in-requires-2 c = record {
-      ends_len = (wide (goal.at.put_in-requires-2 c).Start).0;
-      k_le_count = search rules;
-      count_lt_row_count = with_room (here (goal.at.put_in-requires-2 c).After-place-at) (λ l e. omega arith)
-    }
+  ends_len = (wide (goal.at.put_in-requires-2 c).Start).0;
+  k_le_count = search rules;
+  count_lt_row_count = with_room (here (goal.at.put_in-requires-2 c).After-place-at) (λ l e. omega arith);
+}
 
 pub returns : goal.returns
 returns c =
@@ -80,5 +80,5 @@ returns c =
     let begin = c.begin-lo.ensures in
     record {
       planned = rw c.put_in-2.ensures (with_cut (here (goal.at.returns c).After-place-at) (λ l e. omega arith) (omega arith) (rw begin at got));
-      shares_unchanged = got.past
+      shares_unchanged = got.past;
     }

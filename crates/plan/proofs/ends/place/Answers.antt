@@ -1,11 +1,8 @@
 -- `place` counts the boundaries before d: what is counted and what the rest would give is the number.
 -- A turn is one step of the definition.
 use mathlib.Core.Path.{◌≡◌}
-use Prim.Native.Nat.{◌+◌, ◌-◌, ◌≤◌}
 use native.Mathlib.Omega.{arith}
-use lib.ListN.{take, drop}
 use borrow.Author.Rules.{rules}
-use Rattle.plan.specs.Planned.{before}
 use Rattle.plan.proofs.Bounds.{before-next, before_none}
 use Rattle.plan.proofs.ends.place.Goals as goal
 
@@ -20,5 +17,5 @@ returns c =
     let end : c.loop-k.k ≡ at.count = omega arith in
     record {
       value = omega (arith, rw end at c.loop-k.invariant.2, before_none at.d at.count at.ends.now);
-      upper_bound = search rules
+      upper_bound = search rules;
     }

@@ -1,11 +1,10 @@
 -- `put_in` moves boundaries one place on, the last first: when j is the place that is free, the boundaries are those with the one
 -- at j put in at j. Then d is written there.
 use mathlib.Core.Path.{◌≡◌, sym}
-use Prim.Native.Nat.{◌-◌, ◌≤◌}
+use Prim.Native.Nat.{◌-◌}
 use native.Mathlib.Omega.{arith}
-use lib.ListN.{length, get_or}
+use lib.ListN.{get_or}
 use borrow.Author.Rules.{rules}
-use Rattle.plan.specs.Planned.{put_in}
 use Rattle.plan.proofs.Bounds.{put_none, put_set, put_more}
 use Rattle.plan.proofs.ends.put_in.Goals as goal
 

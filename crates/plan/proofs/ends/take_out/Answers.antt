@@ -2,13 +2,13 @@
 -- The last in use is then written over with zero.
 use mathlib.Core.Path.{◌≡◌, sym, ap, ◌∙◌}
 use mathlib.Core.List.{◌∷◌, ◌++◌}
-use Prim.Native.Nat.{suc, ◌+◌, ◌-◌, ◌≤◌}
+use Prim.Native.Nat.{suc, ◌+◌, ◌-◌}
 use native.Mathlib.Nat.{add_comm}
 use native.Mathlib.Omega.{arith}
 use lib.ListN.{length-drop, length, take, drop, get_or}
 use lib.Seq.{get_or-drop}
 use borrow.Author.Rules.{rules}
-use Rattle.rows.proofs.Moves.{Mixed, mixed_none, mixed_more, mixed_ahead, mixed_set}
+use Rattle.rows.proofs.Moves.{mixed_none, mixed_more, mixed_ahead, mixed_set}
 use Rattle.plan.specs.Planned.{taken_out}
 use Rattle.plan.proofs.ends.take_out.Goals as goal
 

@@ -3,7 +3,6 @@ use mathlib.Core.Path.{refl}
 use Prim.Native.Nat.{ℕ, ◌+◌, ◌-◌, ◌*◌, ◌≤◌}
 use native.Mathlib.Nat.{mul-le-mul}
 use native.Mathlib.Omega.{arith}
-use borrow.Author.Rules.{rules}
 use Rattle.plan.proofs.give.gift.Goals as goal
 
 most : (rate lo end : ℕ) → rate ≤ 1000 → end ≤ lo + 60000 → rate * (end - lo) ≤ 60000000
@@ -14,6 +13,6 @@ overflow_mul-result c = omega (arith, most c.args.rate c.args.lo c.args.end c.re
 
 pub returns : goal.returns
 returns c = record {
-      value = refl;
-      upper_bound = most c.args.rate c.args.lo c.args.end c.requires.rate_bound c.requires.end_bound
-    }
+  value = refl;
+  upper_bound = most c.args.rate c.args.lo c.args.end c.requires.rate_bound c.requires.end_bound;
+}

@@ -1,16 +1,14 @@
 -- `give` raises the new job's slot in each row: after k turns the first k rows are those of `given`, and no other has changed.
 -- What a turn adds fits, since a share is small and a gift is.
 use mathlib.Core.Path.{◌≡◌, refl, ◌∙◌}
-use Prim.Native.Nat.{◌-◌, ◌≤◌}
+use Prim.Native.Nat.{◌≤◌}
 use native.Mathlib.Numerals.{add-one}
 use native.Mathlib.Omega.{arith}
-use lib.ListN.{length, drop, get_or}
+use lib.ListN.{get_or}
 use borrow.Author.Rules.{rules}
 use borrow.Author.Tests.{le-leb}
-use Rattle.rules.specs.Release.{given}
-use Rattle.rules.specs.Words.{rows_of, rows_in}
-use Rattle.rows.proofs.Moves.{Mixed, mixed_none}
-use Rattle.plan.specs.Planned.{slices_in, begin_of}
+use Rattle.rows.proofs.Moves.{mixed_none}
+use Rattle.plan.specs.Planned.{begin_of}
 use Rattle.plan.proofs.Planned.{planned-long, planned-few, ready_at}
 use Rattle.plan.proofs.Given.{given-fits, given_more, given-all, given_stop}
 use Rattle.plan.proofs.give.give.Goals as goal
@@ -27,7 +25,7 @@ returns-then-job-end c =
     let at = c.args in
     record {
       planned = given_stop at.job.slot at.job.rate at.job.deadline c.requires.plan_from.planned c.requires.plan_from.ready c.loop-k.invariant.4 (omega arith) (omega arith);
-      shares_unchanged = c.loop-k.invariant.3
+      shares_unchanged = c.loop-k.invariant.3;
     }
 
 pub gift-requires : goal.gift-requires
@@ -36,7 +34,7 @@ gift-requires c =
     record {
       rate_bound = c.requires.rate_bound;
       lo_le_end = omega (arith, here.rises, c.loop-k.invariant.1);
-      end_bound = omega (arith, here.from, here.soon, c.loop-k.invariant.1)
+      end_bound = omega (arith, here.from, here.soon, c.loop-k.invariant.1);
     }
 
 pub row_add-requires : goal.row_add-requires
@@ -48,7 +46,7 @@ row_add-requires c =
       share_words_in_bounds = search rules;
       k_lt_row_count = search rules;
       slot_lt_slot_count = search rules;
-      grains_bound = omega (arith, fits, c.gift.ensures.upper_bound)
+      grains_bound = omega (arith, fits, c.gift.ensures.upper_bound);
     }
 
 pub loop-k-preserved : goal.loop-k-preserved
@@ -70,5 +68,5 @@ returns c =
     let end : c.loop-k.k ≡ at.count = omega arith in
     record {
       planned = given-all at.job.slot at.job.rate at.job.deadline c.requires.plan_from.planned c.requires.plan_from.ready (rw end at c.loop-k.invariant.4);
-      shares_unchanged = c.loop-k.invariant.3
+      shares_unchanged = c.loop-k.invariant.3;
     }

@@ -1,24 +1,18 @@
 -- `give` raises the new job's slot in each row: after k turns the first k rows are those of `given`, and no other has changed.
 -- What a turn adds fits, since a share is small and a gift is.
-use mathlib.Core.Path.{◌≡◌, refl, ◌∙◌}
+use mathlib.Core.Path.{◌≡◌}
 use Prim.Native.Nat.{◌-◌, ◌≤◌}
-use native.Mathlib.Numerals.{add-one}
-use native.Mathlib.Omega.{arith}
-use lib.ListN.{length, drop, get_or}
-use borrow.Author.Rules.{rules}
-use borrow.Author.Tests.{le-leb}
+use lib.ListN.{length, drop}
 use Rattle.rules.specs.Release.{given}
 use Rattle.rules.specs.Words.{rows_of, rows_in}
-use Rattle.rows.proofs.Moves.{Mixed, mixed_none}
+use Rattle.rows.proofs.Moves.{Mixed}
 use Rattle.plan.specs.Planned.{slices_in, begin_of}
-use Rattle.plan.proofs.Planned.{planned-long, planned-few, ready_at}
-use Rattle.plan.proofs.Given.{given-fits, given_more, given-all, given_stop}
 use Rattle.plan.proofs.give.give.Given as goal
 
 abbrev pub invariant-loop-k : goal.invariant-loop-k
-invariant-loop-k l = 
+invariant-loop-k l =
     (l.k ≤ l.count) × (l.lo ≡ begin_of l.start l.k l.ends) × (length l.shares ≡ length l.initial.shares) × (drop 4096 l.shares ≡ drop 4096 l.initial.shares)
     × Mixed (rows_in 64 (given l.job.slot l.job.rate l.job.deadline l.start (slices_in l.ends l.count l.initial.shares))) (rows_of 64 l.initial.shares) l.k (rows_of 64 l.shares)
 
 abbrev pub decreases-loop-k : goal.decreases-loop-k
-decreases-loop-k l =  l.count - l.k
+decreases-loop-k l = l.count - l.k

@@ -2,7 +2,6 @@
 -- The first slice ends after the clock and within a period of the plan start, so the numbers are in range.
 use mathlib.Core.Path.{◌≡◌, refl}
 use native.Mathlib.Omega.{arith}
-use borrow.Author.Rules.{rules}
 use Rattle.plan.proofs.Planned.{planned-long, planned-lowered, planned_none}
 use Rattle.plan.proofs.Replanned.{first}
 use Rattle.plan.proofs.replan.lower_first.Goals as goal
@@ -13,7 +12,7 @@ returns-then-state-eq0 c =
     let none : st.count ≡ 0 = omega arith in
     record {
       planned = rw none (planned_none st.start st.clock (rw none at c.requires.plan.planned));
-      shares_unchanged = refl
+      shares_unchanged = refl;
     }
 
 pub bounds-ends-0 : goal.bounds-ends-0
@@ -35,7 +34,7 @@ row_lower-requires c =
       share_words_in_bounds = c.requires.plan.long;
       k_lt_row_count = omega arith;
       lower = record { some = omega arith; most = omega arith; within = omega arith };
-      shares_fit = f.small
+      shares_fit = f.small;
     }
 
 pub returns : goal.returns
@@ -43,5 +42,5 @@ returns c =
     let got = c.row_lower.ensures in
     record {
       planned = planned-lowered c.args.state.start c.args.state.clock c.requires.plan.planned (omega arith) got;
-      shares_unchanged = got.past
+      shares_unchanged = got.past;
     }

@@ -11,7 +11,7 @@ with_boundary-n-requires c =
     record {
       plan_from = boundary_plan c.requires low (search rules);
       start_lt_d = c.requires.ahead;
-      room = boundary_room c.requires low
+      room = boundary_room c.requires low;
     }
 
 pub give-requires : goal.give-requires
@@ -19,7 +19,7 @@ give-requires c =
     record {
       plan_from = give_plan c.requires c.lower_first.ensures.planned c.with_boundary-n.ensures.planned (search rules);
       slot_lt_slot_count = c.requires.inside;
-      rate_bound = c.requires.slow
+      rate_bound = c.requires.slow;
     }
 
 pub returns : goal.returns
@@ -29,5 +29,5 @@ returns c =
     let done = c.give.ensures in
     record {
       planned = replanned c.requires low.planned with.planned done.planned;
-      shares_unchanged = done.shares_unchanged ∙ with.shares_unchanged ∙ low.shares_unchanged
+      shares_unchanged = done.shares_unchanged ∙ with.shares_unchanged ∙ low.shares_unchanged;
     }

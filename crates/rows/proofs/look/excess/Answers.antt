@@ -1,6 +1,6 @@
 -- `excess` joins a share with its bound less the share, wrapped: one of the two has the highest bit exactly where the share is more.
 -- A bound is below the highest bit.
-use Rattle.std.proofs.Common.{arith, rules}
+use Rattle.std.proofs.Common.{arith}
 use Rattle.rows.proofs.Marks.{difference}
 use Rattle.rows.proofs.look.excess.Goals as goal
 

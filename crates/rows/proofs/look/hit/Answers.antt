@@ -5,12 +5,12 @@ use Rattle.rows.proofs.look.hit.Goals as goal
 
 pub returns-then-end-due : goal.returns-then-end-due
 returns-then-end-due c = let at = c.args in record {
-      value = rw (eq-eqb at.end at.due c.if-end-due.true);
-      upper_bound = omega arith
-    }
+  value = rw (eq-eqb at.end at.due c.if-end-due.true);
+  upper_bound = omega arith;
+}
 
 pub returns-else-end-due : goal.returns-else-end-due
 returns-else-end-due c = let at = c.args in record {
-      value = rw (ne_eqb at.end at.due c.if-end-due.false);
-      upper_bound = omega arith
-    }
+  value = rw (ne_eqb at.end at.due c.if-end-due.false);
+  upper_bound = omega arith;
+}

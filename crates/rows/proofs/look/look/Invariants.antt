@@ -1,10 +1,8 @@
 -- `look` goes through the slots once: after i turns each number is what the first i slots give, and with the rest's all slots'.
 -- The sum is kept without its multiples of 2 to the 32nd: where each share fits, 64 of them are less than that.
-use Rattle.std.proofs.Common.{◌≡◌, ℕ, ◌+◌, ◌-◌, ◌*◌, ◌%◌, ◌<◌, ◌≤◌, ◌&&◌, ltb, List, length, get_or, drop, sym, refl, ◌∙◌, arith, rules}
-use mathlib.Core.Bool.{and_assoc, and-true}
+use Rattle.std.proofs.Common.{◌≡◌, ℕ, ◌+◌, ◌-◌, ◌%◌, ◌≤◌, ◌&&◌, ltb, List, drop}
 use Rattle.rules.specs.Station.{sum}
-use Rattle.rows.specs.Row.{share_fits, shares_fit, owed_in, hits_in}
-use Rattle.rows.proofs.Folds.{sum-next, sum_done, fits_next, fits-done, fits_sum, owed-next, owed-done, hits_next, hits_done}
+use Rattle.rows.specs.Row.{shares_fit, owed_in, hits_in}
 use Rattle.rows.proofs.look.look.Given as goal
 
 pub record Looking (row due rates : List ℕ) (end most over added owed hits i : ℕ) : Type 0 where

@@ -1,6 +1,6 @@
 -- `with_share` marks a share that is more than its bound.
 -- The bound is at most the slice's grains.
-use Rattle.std.proofs.Common.{arith, rules, le-ltb, lt-ltb}
+use Rattle.std.proofs.Common.{arith, le-ltb, lt-ltb}
 use Rattle.rules.proofs.Floor.{by_lt}
 use Rattle.rows.specs.Row.{share_fits}
 use Rattle.rows.proofs.look.with_share.Goals as goal

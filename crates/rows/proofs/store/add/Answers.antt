@@ -1,6 +1,6 @@
 -- `add` raises one share: what is stored is the sum, since the sum fits its word.
 -- The bound is what `add` requires.
-use Rattle.std.proofs.Common.{◌≡◌, ◌+◌, get_or, arith, rules}
+use Rattle.std.proofs.Common.{◌≡◌, ◌+◌, get_or, arith}
 use Rattle.rows.proofs.store.add.Goals as goal
 
 pub returns : goal.returns

@@ -1,9 +1,9 @@
 -- `clear` leaves a row of zeros: after i turns the first i words are zeros.
 -- A row is 64 words, so 64 turns write it whole.
-use Rattle.std.proofs.Common.{◌≡◌, ℕ, ◌-◌, ◌≤◌, length, replicate, arith, rules}
+use Rattle.std.proofs.Common.{ℕ, arith, rules}
 use lib.ListN.{get_or-replicate}
 use Rattle.rules.specs.Station.{zeros}
-use Rattle.rows.proofs.Moves.{Mixed, mixed_none, mixed_more, mixed_all}
+use Rattle.rows.proofs.Moves.{mixed_none, mixed_more, mixed_all}
 use Rattle.rows.proofs.store.clear.Goals as goal
 
 pub loop-i-init : goal.loop-i-init

@@ -1,9 +1,7 @@
 -- `clear` leaves a row of zeros: after i turns the first i words are zeros.
 -- A row is 64 words, so 64 turns write it whole.
-use Rattle.std.proofs.Common.{◌≡◌, ℕ, ◌-◌, ◌≤◌, length, replicate, arith, rules}
-use lib.ListN.{get_or-replicate}
-use Rattle.rules.specs.Station.{zeros}
-use Rattle.rows.proofs.Moves.{Mixed, mixed_none, mixed_more, mixed_all}
+use Rattle.std.proofs.Common.{◌≡◌, ◌-◌, ◌≤◌, length, replicate}
+use Rattle.rows.proofs.Moves.{Mixed}
 use Rattle.rows.proofs.store.clear.Given as goal
 
 abbrev pub invariant-loop-i : goal.invariant-loop-i

@@ -1,8 +1,7 @@
 -- `copy_down` leaves the first row twice: the first 64 words stay, and of the others the first i are theirs after i turns.
 -- The two halves are followed apart, since every store is behind the seam.
-use Rattle.std.proofs.Common.{◌≡◌, ◌+◌, ◌-◌, ◌≤◌, length, get_or, take, drop, sym, ap, ◌∙◌, arith, length-drop, take-append-drop, length-take-le, get_or-take, rules}
-use lib.Seq.{take-set-le, drop-set-add}
-use Rattle.rows.proofs.Moves.{Mixed, mixed_none, mixed_more, mixed_all}
+use Rattle.std.proofs.Common.{◌≡◌, ◌-◌, ◌≤◌, length, take, drop}
+use Rattle.rows.proofs.Moves.{Mixed}
 use Rattle.rows.proofs.store.copy_down.Given as goal
 
 abbrev pub invariant-loop-i : goal.invariant-loop-i

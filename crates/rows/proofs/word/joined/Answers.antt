@@ -11,5 +11,5 @@ returns c =
     let right = and_le_r c.args.a c.args.b in
     record {
       parts_zero = (λ e. omega arith);
-      zero = (λ e. omega arith)
+      zero = (λ e. omega arith);
     }

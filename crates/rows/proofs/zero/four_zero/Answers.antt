@@ -1,6 +1,6 @@
 -- `four_zero` joins all words: what is joined so far and the sums of what is left are zero together with the whole sums.
 -- At the end nothing is left, so the word that is joined tells.
-use Rattle.std.proofs.Common.{◌≡◌, ℕ, ◌+◌, ◌-◌, ◌≤◌, List, length, drop, arith, rules, eq-eqb, ne_eqb}
+use Rattle.std.proofs.Common.{◌+◌, arith, rules, eq-eqb, ne_eqb}
 use Rattle.rules.specs.Station.{sum}
 use Rattle.rules.proofs.Floor.{by_lt}
 use Rattle.rows.proofs.Folds.{sum-next, sum_done}

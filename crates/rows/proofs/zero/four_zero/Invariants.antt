@@ -1,9 +1,7 @@
 -- `four_zero` joins all words: what is joined so far and the sums of what is left are zero together with the whole sums.
 -- At the end nothing is left, so the word that is joined tells.
-use Rattle.std.proofs.Common.{◌≡◌, ℕ, ◌+◌, ◌-◌, ◌≤◌, List, length, drop, arith, rules, eq-eqb, ne_eqb}
+use Rattle.std.proofs.Common.{◌≡◌, ℕ, ◌+◌, ◌-◌, ◌≤◌, List, length, drop}
 use Rattle.rules.specs.Station.{sum}
-use Rattle.rules.proofs.Floor.{by_lt}
-use Rattle.rows.proofs.Folds.{sum-next, sum_done}
 use Rattle.rows.proofs.zero.four_zero.Given as goal
 
 -- the sums of what is left, from place i on

@@ -1,20 +1,17 @@
 -- `end_jobs` ends the jobs with deadline d, slot by slot: after i turns the first i tasks are those of `ended`.
 -- The deadline that a turn reads is still the one that came in.
 use mathlib.Core.Bool.{cond}
-use mathlib.Core.List.{List}
 use mathlib.Core.Path.{◌≡◌, refl, ap, ◌∙◌}
-use Prim.Native.Nat.{ℕ, ◌-◌, ◌≤◌}
 use native.Mathlib.Omega.{arith}
 use lib.Dec.{eqb}
 use lib.ListN.{length, get_or}
 use borrow.Author.Tests.{eq-eqb, ne_eqb}
-use borrow.Author.Rules.{rules}
 use Rattle.rules.specs.Advance.{ended}
 use Rattle.rules.specs.Station.{free, with_deadline}
-use Rattle.rules.specs.Held.{list_words, ends_of, tasks_of}
+use Rattle.rules.specs.Held.{tasks_of}
 use Rattle.rules.proofs.Held.{slots_length}
 use Rattle.rules.proofs.Tasks.{ended_cases, ended-length}
-use Rattle.rows.proofs.Moves.{Mixed, mixed_none, mixed_more, mixed_ahead, mixed_all}
+use Rattle.rows.proofs.Moves.{mixed_none, mixed_more, mixed_ahead, mixed_all}
 use Rattle.slots.proofs.task.end_jobs.Goals as goal
 
 pub loop-i-init : goal.loop-i-init

@@ -1,6 +1,6 @@
 -- `load` adds up the rates: what is added so far and the rates of the slots left make the whole, so no sum is more than that.
 use mathlib.Core.Path.{◌≡◌}
-use Prim.Native.Nat.{◌+◌, ◌-◌, ◌≤◌}
+use Prim.Native.Nat.{◌+◌}
 use native.Mathlib.Omega.{arith}
 use borrow.Author.Rules.{rules}
 use lib.ListN.{drop}

@@ -1,7 +1,6 @@
 -- `put_deadline` stores one word of a slot; its other words, the other slots' and the boundaries are not touched.
 use mathlib.Core.Path.{refl}
 use native.Mathlib.Omega.{arith}
-use borrow.Author.Rules.{rules}
 use Rattle.rules.specs.Station.{with_deadline}
 use Rattle.rules.specs.Held.{task_in, task_words}
 use Rattle.rules.proofs.Held.{stored, task_stored, ends-stored}

@@ -3,7 +3,6 @@ use mathlib.Core.Path.{◌≡◌, refl, ◌∙◌}
 use Prim.Native.Nat.{◌+◌, ◌*◌, ◌<◌}
 use native.Mathlib.Omega.{arith}
 use lib.ListN.{length, set, length-set}
-use borrow.Author.Rules.{rules}
 use Rattle.rules.specs.Station.{slot_count}
 use Rattle.rules.specs.Held.{words_per_task, task_in, task_words, tasks_from, list_words, tasks_of}
 use Rattle.rules.proofs.Held.{stored, slots_length, task_stored, task_stored-on, ends-stored}

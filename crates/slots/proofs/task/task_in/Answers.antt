@@ -2,7 +2,6 @@
 use mathlib.Core.Path.{refl}
 use native.Mathlib.Omega.{arith}
 use lib.Seq.{get_or-drop}
-use borrow.Author.Rules.{rules}
 use Rattle.rules.specs.Held.{task_in}
 use Rattle.rules.proofs.Held.{task_at_lem}
 use Rattle.slots.proofs.task.task_in.Goals as goal

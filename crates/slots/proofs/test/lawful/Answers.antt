@@ -3,7 +3,7 @@
 use mathlib.Core.Path.{refl}
 use mathlib.Core.Logic.{⊎_elim}
 use native.Mathlib.Omega.{arith}
-use borrow.Author.Tests.{lt-ltb, le-ltb, le-leb, lt-leb, ltb-true, ltb-false}
+use borrow.Author.Tests.{lt-ltb, le-ltb, le-leb, lt-leb, ltb-false}
 use Rattle.rules.specs.Station.{in_use}
 use Rattle.rules.specs.Sound.{every, lawful_test}
 use Rattle.slots.proofs.Rate.{lawful-rate}
@@ -19,7 +19,7 @@ returns-then-task-lt1 c =
           (λ long. rw (lt-ltb 0 at.task.period (omega arith), lt-leb at.task.period 60000 (omega arith)))
           c.then-task-lt1.either;
       period_le_longest_period = (λ e. absurd (not_both e refl));
-      rate_bound = (λ e. absurd (not_both e refl))
+      rate_bound = (λ e. absurd (not_both e refl));
     }
 
 pub returns-then-task-lt1-2 : goal.returns-then-task-lt1-2
@@ -32,7 +32,7 @@ returns-then-task-lt1-2 c =
           (λ most. rw (le-leb 1 at.task.rate (omega arith), lt-leb at.task.rate 1000 (omega arith)))
           c.then-task-lt1-2.either);
       period_le_longest_period = (λ e. absurd (not_both e refl));
-      rate_bound = (λ e. absurd (not_both e refl))
+      rate_bound = (λ e. absurd (not_both e refl));
     }
 
 pub rate_is-requires : goal.rate_is-requires
@@ -44,5 +44,5 @@ returns c =
     let at = c.args in record {
       value = rw (lt-ltb 0 at.task.period (omega arith), le-leb at.task.period 60000 (omega (arith, ltb-false)), lawful-rate at.task.period at.task.cost at.task.rate (omega arith), le-leb 1 at.task.rate (omega arith), le-leb at.task.rate 1000 (omega (arith, ltb-false))) c.rate_is.ensures;
       period_le_longest_period = (λ e. omega (arith, ltb-false));
-      rate_bound = (λ e. omega (arith, ltb-false))
+      rate_bound = (λ e. omega (arith, ltb-false));
     }

@@ -3,7 +3,6 @@
 use mathlib.Core.Path.{◌≡◌, sym, ◌∙◌}
 use Prim.Native.Nat.{◌%◌}
 use native.Mathlib.Omega.{arith}
-use borrow.Author.Rules.{rules}
 use Rattle.rules.specs.Station.{in_use, pending}
 use Rattle.rules.specs.Sound.{lawful_test, in_time_test}
 use Rattle.slots.proofs.Tests.{and_then, and_else, not_both}
@@ -17,14 +16,14 @@ returns-then-used-eq0 c =
     let bit : at.used % 2 ≡ 0 = omega arith in
     record {
       value = rw bit (c.unused.ensures ∙ free_task at.clock at.start k);
-      rate_bound = (λ e. omega (arith, free-rate k (sym c.unused.ensures ∙ e)))
+      rate_bound = (λ e. omega (arith, free-rate k (sym c.unused.ensures ∙ e)));
     }
 
 pub in_time-requires : goal.in_time-requires
 in_time-requires c = record {
-      start_le_last_tick = omega arith;
-      period_le_longest_period = c.lawful.ensures.period_le_longest_period c.if-lawful.true
-    }
+  start_le_last_tick = omega arith;
+  period_le_longest_period = c.lawful.ensures.period_le_longest_period c.if-lawful.true;
+}
 
 pub returns-then-lawful : goal.returns-then-lawful
 unfolding lawful_test in_time_test in_use pending
@@ -33,7 +32,7 @@ returns-then-lawful c =
     let l = c.lawful.ensures in
     let bit : at.used % 2 ≡ 1 = omega arith in record {
       value = rw bit (and_then _ _ (sym l.value ∙ c.if-lawful.true) c.in_time.ensures ∙ used_task at.clock at.start at.task);
-      rate_bound = (λ e. l.rate_bound c.if-lawful.true)
+      rate_bound = (λ e. l.rate_bound c.if-lawful.true);
     }
 
 pub returns-else-lawful : goal.returns-else-lawful
@@ -43,5 +42,5 @@ returns-else-lawful c =
     let l = c.lawful.ensures in
     let bit : at.used % 2 ≡ 1 = omega arith in record {
       value = rw bit (and_else _ _ (sym l.value ∙ c.if-lawful.false) l.value ∙ used_task at.clock at.start at.task);
-      rate_bound = (λ e. absurd (not_both e c.if-lawful.false))
+      rate_bound = (λ e. absurd (not_both e c.if-lawful.false));
     }

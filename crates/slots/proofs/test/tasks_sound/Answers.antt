@@ -1,17 +1,14 @@
 -- `tasks_sound` goes through the slots with what is left of the word of the slots in use, whose lowest bit is the slot's.
 -- The laws of Slots.antt say what one slot does to that, and what is known after the last.
 use mathlib.Core.Path.{◌≡◌, refl, sym, ap, ◌∙◌}
-use Prim.Native.Nat.{◌-◌}
 use native.Mathlib.Omega.{arith}
-use borrow.Author.Rules.{rules}
-use borrow.Author.Tests.{not-true, not-false}
 use lib.ListN.{get_or}
 use Rattle.rules.specs.Station.{free}
 use Rattle.rules.specs.Held.{tasks_of}
 use Rattle.rules.proofs.Held.{slots_length}
 use Rattle.slots.specs.Tests.{due_from}
 use Rattle.slots.proofs.Tests.{not_both}
-use Rattle.slots.proofs.Slots.{slot_test, Going, going_none, going_fails, going_more, going_done}
+use Rattle.slots.proofs.Slots.{slot_test, going_none, going_fails, going_more, going_done}
 use Rattle.slots.proofs.test.tasks_sound.Goals as goal
 use Rattle.slots.proofs.test.tasks_sound.Goals.{After-one_task}
 
@@ -32,7 +29,7 @@ returns-then-not-one_task c =
     record {
       value = going_fails c.loop-i.invariant (slots_length _) free (omega arith) fails;
       due_after = (λ e. absurd (not_both e refl));
-      rates_after = (λ e. absurd (not_both e refl))
+      rates_after = (λ e. absurd (not_both e refl));
     }
 
 -- a sound task's rate is small
@@ -54,5 +51,5 @@ returns c =
     record {
       value = done.0;
       due_after = (λ e. done.1);
-      rates_after = (λ e. done.2)
+      rates_after = (λ e. done.2);
     }

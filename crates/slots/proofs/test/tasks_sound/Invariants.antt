@@ -1,21 +1,12 @@
 -- `tasks_sound` goes through the slots with what is left of the word of the slots in use, whose lowest bit is the slot's.
 -- The laws of Slots.antt say what one slot does to that, and what is known after the last.
-use mathlib.Core.Path.{◌≡◌, refl, sym, ap, ◌∙◌}
 use Prim.Native.Nat.{◌-◌}
-use native.Mathlib.Omega.{arith}
-use borrow.Author.Rules.{rules}
-use borrow.Author.Tests.{not-true, not-false}
-use lib.ListN.{get_or}
-use Rattle.rules.specs.Station.{free}
 use Rattle.rules.specs.Held.{tasks_of}
-use Rattle.rules.proofs.Held.{slots_length}
-use Rattle.slots.specs.Tests.{due_from}
-use Rattle.slots.proofs.Tests.{not_both}
-use Rattle.slots.proofs.Slots.{slot_test, Going, going_none, going_fails, going_more, going_done}
+use Rattle.slots.proofs.Slots.{Going}
 use Rattle.slots.proofs.test.tasks_sound.Given as goal
 
 abbrev pub invariant-loop-i : goal.invariant-loop-i
-invariant-loop-i l =  Going l.state.used l.state.clock l.state.start (tasks_of l.lists) l.initial.due l.initial.rates l.due l.rates l.left l.i
+invariant-loop-i l = Going l.state.used l.state.clock l.state.start (tasks_of l.lists) l.initial.due l.initial.rates l.due l.rates l.left l.i
 
 abbrev pub decreases-loop-i : goal.decreases-loop-i
-decreases-loop-i l =  64 - l.i
+decreases-loop-i l = 64 - l.i

@@ -1,6 +1,5 @@
 -- `bit_of` is a 1 shifted by less than the width. Assumes nothing.
 use Rattle.slots.proofs.Used.{shifted_one}
-use borrow.Author.Rules.{rules}
 use Rattle.slots.proofs.word.bit_of.Goals as goal
 
 pub returns : goal.returns

@@ -2,7 +2,6 @@
 use lib.Count.{trailing_le}
 use Prim.Native.Nat.{◌-◌}
 use native.Mathlib.Omega.{arith}
-use borrow.Author.Rules.{rules}
 use Rattle.slots.proofs.word.lowest_free.Goals as goal
 
 pub overflow_cast-result : goal.overflow_cast-result

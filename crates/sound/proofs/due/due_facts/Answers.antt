@@ -1,12 +1,8 @@
 -- `due_facts` goes through the slots once: after i turns each number is what the first i slots give, and with the rest's all slots'.
 -- 64 rates of 32 bits add up to less than 2 to the 38th.
-use mathlib.Core.Path.{◌≡◌}
-use mathlib.Core.List.{List}
-use Prim.Native.Nat.{ℕ, ◌+◌, ◌-◌, ◌*◌, ◌<◌, ◌≤◌}
+use Prim.Native.Nat.{◌<◌, ◌≤◌}
 use native.Mathlib.Omega.{arith}
-use borrow.Author.Rules.{rules}
-use lib.ListN.{length, drop}
-use Rattle.rows.specs.Row.{owed_in, hits_in}
+use lib.ListN.{length}
 use Rattle.rows.proofs.Folds.{owed-next, owed-done, hits_next, hits_done}
 use Rattle.sound.proofs.due.due_facts.Goals as goal
 

@@ -2,12 +2,9 @@
 -- 64 rates of 32 bits add up to less than 2 to the 38th.
 use mathlib.Core.Path.{◌≡◌}
 use mathlib.Core.List.{List}
-use Prim.Native.Nat.{ℕ, ◌+◌, ◌-◌, ◌*◌, ◌<◌, ◌≤◌}
-use native.Mathlib.Omega.{arith}
-use borrow.Author.Rules.{rules}
-use lib.ListN.{length, drop}
+use Prim.Native.Nat.{ℕ, ◌+◌, ◌-◌, ◌*◌, ◌≤◌}
+use lib.ListN.{drop}
 use Rattle.rows.specs.Row.{owed_in, hits_in}
-use Rattle.rows.proofs.Folds.{owed-next, owed-done, hits_next, hits_done}
 use Rattle.sound.proofs.due.due_facts.Given as goal
 
 pub record Counting (due rates : List ℕ) (end owed hits i : ℕ) : Type 0 where
@@ -17,7 +14,7 @@ pub record Counting (due rates : List ℕ) (end owed hits i : ℕ) : Type 0 wher
   pub hits_left : hits + hits_in end (drop i due) ≡ hits_in end due
 
 abbrev pub invariant-loop-i : goal.invariant-loop-i
-invariant-loop-i l =  Counting l.due l.rates l.end l.owed l.hits l.i
+invariant-loop-i l = Counting l.due l.rates l.end l.owed l.hits l.i
 
 abbrev pub decreases-loop-i : goal.decreases-loop-i
-decreases-loop-i l =  64 - l.i
+decreases-loop-i l = 64 - l.i

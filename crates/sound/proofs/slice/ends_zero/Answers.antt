@@ -1,13 +1,9 @@
 -- `ends_zero` goes through the boundaries past the last: what was found, joined with what is left, says whether all are zero.
 -- Numbers are all zero where their sum is.
-use mathlib.Core.Path.{◌≡◌, refl, sym, ◌∙◌}
-use mathlib.Core.Bool.{◌&&◌}
-use Prim.Native.Nat.{◌-◌, ◌<◌, ◌≤◌}
+use mathlib.Core.Path.{refl, sym, ◌∙◌}
+use Prim.Native.Nat.{◌<◌, ◌≤◌}
 use native.Mathlib.Omega.{arith}
-use borrow.Author.Rules.{rules}
-use lib.Dec.{eqb}
-use lib.ListN.{length, drop}
-use Rattle.rules.specs.Station.{sum}
+use lib.ListN.{length}
 use Rattle.sound.proofs.Passed.{zero_next, zero_done}
 use Rattle.sound.proofs.slice.ends_zero.Goals as goal
 

@@ -5,7 +5,7 @@ use mathlib.Core.Logic.{⊎_elim}
 use mathlib.Core.Bool.{true, false}
 use Prim.Native.Nat.{◌-◌}
 use native.Mathlib.Omega.{arith}
-use borrow.Author.Tests.{lt-ltb, le-ltb, le-leb, lt-leb, ltb-true, ltb-false}
+use borrow.Author.Tests.{lt-ltb, le-ltb, le-leb, lt-leb, ltb-false}
 use borrow.Author.Rules.{rules}
 use Rattle.rules.specs.Station.{sum}
 use Rattle.rules.specs.Words.{row_at}
@@ -19,12 +19,12 @@ unfolding within
 outside c =
     let at = c.args in
     ⊎_elim
-    (λ w. rw (le-ltb at.span.from at.span.end (omega arith)))
+    (λ none. rw (le-ltb at.span.from at.span.end (omega arith)))
     (λ v. ⊎_elim
-    (λ w. rw (lt-ltb at.span.from at.span.end (omega arith), lt-leb (at.span.end - at.span.start) 60000 (omega (arith, ltb-true))))
-    (λ w. rw (lt-ltb at.span.from at.span.end (omega arith), le-leb (at.span.end - at.span.start) 60000 (omega (arith, ltb-false)), lt-leb (at.span.end - at.span.from) 60000 (omega (arith, ltb-true))))
+    (λ late. rw (lt-ltb at.span.from at.span.end (omega arith), lt-leb (at.span.end - at.span.start) 60000 (omega arith)))
+    (λ long. rw (lt-ltb at.span.from at.span.end (omega arith), le-leb (at.span.end - at.span.start) 60000 (omega arith), lt-leb (at.span.end - at.span.from) 60000 (omega arith)))
     v)
-    c.then-long-eq0.branch
+    c.then-long-eq0.either
 
 inside : (c : Else-long-gt-LONGEST_PERIOD) → let at = c.args in within at.span.start at.span.from at.span.end ≡ true
 unfolding within
@@ -39,7 +39,7 @@ returns-then-long-eq0 c =
     record {
       ok_value = none.0;
       hits_value = none.1;
-      hits_le_slot_count = omega arith
+      hits_le_slot_count = omega arith;
     }
 
 pub overflow_mul-long : goal.overflow_mul-long
@@ -68,5 +68,5 @@ returns c =
     record {
       ok_value = rw ok (cc);
       hits_value = rw ok (cc);
-      hits_le_slot_count = search rules
+      hits_le_slot_count = search rules;
     }

@@ -1,14 +1,11 @@
 -- `slices_sound` goes through the slices: what was found, joined with what the slices from k on say, is what all slices say.
 -- Each slice adds at most 64 to the count.
 use mathlib.Core.Path.{◌≡◌, refl, sym, ◌∙◌}
-use mathlib.Core.Bool.{Bool, ◌&&◌}
-use mathlib.Core.List.{List}
-use Prim.Native.Nat.{ℕ, ◌+◌, ◌-◌, ◌*◌, ◌<◌, ◌≤◌}
+use Prim.Native.Nat.{◌<◌, ◌≤◌}
 use native.Mathlib.Omega.{arith}
 use borrow.Author.Rules.{rules}
 use lib.ListN.{length}
-use Rattle.rules.specs.Sound.{each_slice}
-use Rattle.sound.specs.Due.{slice_check, all_hits}
+use Rattle.sound.specs.Due.{slice_check}
 use Rattle.sound.proofs.Passed.{slices_from, each_next, each_done, hits_passed, hits_all}
 use Rattle.sound.proofs.slice.slices_sound.Goals as goal
 
@@ -38,5 +35,5 @@ returns c =
     let few : at.count ≤ 64 = omega arith in
     let p = slice_check at.start at.due.now at.rates.now in record {
       ok_value = sym (each_done at.count at.ends.now at.shares.now long few p c.loop-k.found.ok c.loop-k.from c.loop-k.k h) ∙ c.loop-k.invariant.ok_left;
-      hits_value = omega (arith, hits_all at.count at.ends.now at.shares.now long few at.start at.due.now c.loop-k.from c.loop-k.k h)
+      hits_value = omega (arith, hits_all at.count at.ends.now at.shares.now long few at.start at.due.now c.loop-k.from c.loop-k.k h);
     }

@@ -1,15 +1,12 @@
 -- `slices_sound` goes through the slices: what was found, joined with what the slices from k on say, is what all slices say.
 -- Each slice adds at most 64 to the count.
-use mathlib.Core.Path.{◌≡◌, refl, sym, ◌∙◌}
+use mathlib.Core.Path.{◌≡◌}
 use mathlib.Core.Bool.{Bool, ◌&&◌}
 use mathlib.Core.List.{List}
-use Prim.Native.Nat.{ℕ, ◌+◌, ◌-◌, ◌*◌, ◌<◌, ◌≤◌}
-use native.Mathlib.Omega.{arith}
-use borrow.Author.Rules.{rules}
-use lib.ListN.{length}
+use Prim.Native.Nat.{ℕ, ◌+◌, ◌-◌, ◌*◌, ◌≤◌}
 use Rattle.rules.specs.Sound.{each_slice}
 use Rattle.sound.specs.Due.{slice_check, all_hits}
-use Rattle.sound.proofs.Passed.{slices_from, each_next, each_done, hits_passed, hits_all}
+use Rattle.sound.proofs.Passed.{slices_from}
 use Rattle.sound.proofs.slice.slices_sound.Given as goal
 
 pub record Passing (words due rates ends : List ℕ) (count start : ℕ) (ok : Bool) (hits lo k : ℕ) : Type 0 where
@@ -19,7 +16,7 @@ pub record Passing (words due rates ends : List ℕ) (count start : ℕ) (ok : B
   pub hits_left : hits + all_hits start due lo (slices_from k count ends words) ≡ all_hits start due start (slices_from 0 count ends words)
 
 abbrev pub invariant-loop-k : goal.invariant-loop-k
-invariant-loop-k l =  Passing l.shares l.due l.rates l.ends l.count l.start l.found.ok l.found.hits l.from l.k
+invariant-loop-k l = Passing l.shares l.due l.rates l.ends l.count l.start l.found.ok l.found.hits l.from l.k
 
 abbrev pub decreases-loop-k : goal.decreases-loop-k
-decreases-loop-k l =  l.count - l.k
+decreases-loop-k l = l.count - l.k

@@ -2,7 +2,6 @@
 -- Each branch knows how its test came out.
 use Prim.Native.Nat.{◌*◌}
 use native.Mathlib.Omega.{arith}
-use borrow.Author.Rules.{rules}
 use borrow.Author.Tests.{lt-ltb, le-ltb, le-leb, lt-leb}
 use Rattle.sound.proofs.whole.load_sound.Goals as goal
 

@@ -1,13 +1,11 @@
 -- `plan_sound` asks the load first, then all slices, the count of the jobs that are due at their ends, and the zeros past them.
 -- Each test but the last leaves a flag, which the next joins; together they are the plan's test in another grouping.
-use mathlib.Core.Path.{◌≡◌, refl, sym, ◌∙◌}
-use mathlib.Core.Logic.{⊎_elim}
+use mathlib.Core.Path.{◌≡◌, sym, ◌∙◌}
 use mathlib.Core.Bool.{◌&&◌, ◌||◌, and-eq-true_iff, and_assoc, and-true}
 use mathlib.Core.List.{List}
 use Prim.Native.Nat.{ℕ, ◌-◌, ◌*◌}
 use native.Mathlib.Omega.{arith}
-use borrow.Author.Tests.{leb-true, not-true, not-false}
-use borrow.Author.Rules.{rules}
+use borrow.Author.Tests.{leb-true}
 use lib.Dec.{leb, ltb, eqb}
 use lib.ListN.{take, drop}
 use Rattle.rules.specs.Station.{grains, slot_count, row_count, share_words, sum}
@@ -16,9 +14,8 @@ use Rattle.rules.specs.Words.{rows_of, slices_of}
 use Rattle.rows.specs.Row.{owed_in, hits_in}
 use Rattle.sound.specs.Due.{slice_check, all_hits, plan_test}
 use Rattle.sound.proofs.Dues.{owed-sum}
-use Rattle.slots.proofs.Tests.{and_then, and_else}
 use Rattle.sound.proofs.whole.plan_sound.Goals as goal
-use Rattle.sound.proofs.whole.plan_sound.Goals.{After-load_sound, Joined-slices, Joined-slices-jobs}
+use Rattle.sound.proofs.whole.plan_sound.Goals.{After-load_sound}
 
 plan-order : (cores clock start : ℕ) (due rates : List ℕ) (count : ℕ) (ends words : List ℕ)
     → let slices = slices_of (take count ends) (rows_of row_count words) in
@@ -41,29 +38,8 @@ slices_sound-slices-requires c =
     let load = leb-true (owed_in 0 at.due.now at.rates.now) (grains at.state.cores) ((and-eq-true_iff _ _).0 fits).0 in
     omega (arith, owed-sum at.due.now at.rates.now (omega arith))
 
-two : (c : Joined-slices) → let found = c.slices_sound-slices.result in c.if-slices.if3 ≡ (found.ok && eqb found.hits (64 - c.due_facts-all.result.hits))
-two c = ⊎_elim (λ w. and_then _ _ w.0.taken w.2) (λ w. and_else _ _ w.0.left w.1) c.if-slices.branch
-
-three : (c : Joined-slices-jobs) → let at = c.args in
-    c.if-slices-jobs.if4 ≡ (c.if-slices.if3 && eqb (sum (drop at.state.count at.ends.now)) 0)
-three c = ⊎_elim (λ w. and_then _ _ w.0.taken (w.2 ∙ w.1.ensures)) (λ w. and_else _ _ w.0.left w.1) c.if-slices-jobs.branch
-
-test : (c : Joined-slices-jobs) → let at = c.args in
-    (c.if-slices-jobs.if4 && eqb (sum (drop (slot_count * at.state.count) (take share_words at.shares.now))) 0)
-    ≡ plan_test at.state.cores at.state.clock at.state.start at.due.now at.rates.now at.state.count at.ends.now at.shares.now
-test c =
-    let at = c.args in
-    let fits = sym (loaded c) ∙ c.if-not-load_sound.false in
-    rw (plan-order at.state.cores at.state.clock at.state.start at.due.now at.rates.now at.state.count at.ends.now at.shares.now, fits, three c, two c, c.slices_sound-slices.ensures.ok_value, c.slices_sound-slices.ensures.hits_value, c.due_facts-all.ensures.hits_value)
-
 pub returns-then-not-load_sound : goal.returns-then-not-load_sound
 returns-then-not-load_sound c =
     let at = c.args in
     let over = sym (loaded (goal.at.returns-then-not-load_sound c).After-load_sound) ∙ c.if-not-load_sound.true in
     rw (plan-order at.state.cores at.state.clock at.state.start at.due.now at.rates.now at.state.count at.ends.now at.shares.now, over)
-
-pub returns-then-ends_zero : goal.returns-then-ends_zero
-returns-then-ends_zero c = and_then _ _ c.if-ends_zero.true c.rows_zero.ensures ∙ test (goal.at.returns-then-ends_zero c).Joined-slices-jobs
-
-pub returns-else-ends_zero : goal.returns-else-ends_zero
-returns-else-ends_zero c = and_else _ _ c.if-ends_zero.false refl ∙ test (goal.at.returns-else-ends_zero c).Joined-slices-jobs

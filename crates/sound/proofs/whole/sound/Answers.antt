@@ -1,11 +1,8 @@
 -- `sound` asks the clauses that speak of single numbers and tasks first, and says no where one fails, as a sound table passes them all.
 -- What they bound lets the rest be computed, and the law of Clauses.antt says that the rest decides.
-use mathlib.Core.Path.{◌≡◌, ap, sym, ◌∙◌}
-use mathlib.Core.Logic.{⊎_elim}
+use mathlib.Core.Path.{ap, sym, ◌∙◌}
 use Prim.Native.Nat.{◌≤◌}
 use native.Mathlib.Omega.{arith}
-use borrow.Author.Tests.{not-true, not-false}
-use borrow.Author.Rules.{rules}
 use lib.ListN.{length}
 use lib.Seq.{length-take-le}
 use Rattle.rules.specs.Held.{tasks_of, ends_of, is_sound_in}
@@ -14,7 +11,7 @@ use Rattle.slots.proofs.Tests.{not_both}
 use Rattle.slots.proofs.Dues.{dues-long, rates-long}
 use Rattle.sound.proofs.Clauses.{InRange, in_range, Asked, refused, decided}
 use Rattle.sound.proofs.whole.sound.Goals as goal
-use Rattle.sound.proofs.whole.sound.Goals.{Else-not-scalars}
+use Rattle.sound.proofs.whole.sound.Goals.{Else-not-scalars, then-shares-lt-SHARE_WORDS-via-then-shares-lt-SHARE_WORDS, then-shares-lt-SHARE_WORDS-via-else-shares-lt-SHARE_WORDS+then-not-scalars}
 
 ranged : (c : Else-not-scalars) → let s = c.args.state in InRange s.cores s.clock s.start s.count
 ranged c = in_range _ _ _ _ (sym c.scalars.ensures ∙ c.if-not-scalars.false)
@@ -22,10 +19,10 @@ ranged c = in_range _ _ _ _ (sym c.scalars.ensures ∙ c.if-not-scalars.false)
 pub returns-then-shares-lt-SHARE_WORDS : goal.returns-then-shares-lt-SHARE_WORDS
 unfolding is_sound_in
 returns-then-shares-lt-SHARE_WORDS c =
-    refused _ _ _ _ _ _ _ _ (λ a. ⊎_elim
-    (λ w. let enough = a.enough in omega arith)
-    (λ w. not_both a.scalars (sym w.1.ensures ∙ not-true _ w.2.taken))
-    c.then-shares-lt-SHARE_WORDS.branch)
+    refused _ _ _ _ _ _ _ _ (λ a. elim c.then-shares-lt-SHARE_WORDS.branch [
+      | then-shares-lt-SHARE_WORDS-via-then-shares-lt-SHARE_WORDS w ↦ (let enough = a.enough in omega arith)
+      | then-shares-lt-SHARE_WORDS-via-else-shares-lt-SHARE_WORDS+then-not-scalars w ↦ not_both a.scalars (sym w.scalars.ensures ∙ w.if-not-scalars.true)
+    ])
 
 pub tasks_sound-requires : goal.tasks_sound-requires
 tasks_sound-requires c = omega (arith, ranged (goal.at.tasks_sound-requires c).Else-not-scalars)

@@ -1,6 +1,5 @@
 -- `cut_row` cuts row k in two: once there is room the row stands twice, in places k and k + 1, and each part is made in its place.
 -- No share of the first part is more than the row's, so it can be taken from the row, and what is left is the rest.
-use Prim.Native.Nat.{◌+◌}
 use native.Mathlib.Omega.{arith}
 use borrow.Author.Rules.{rules}
 use Rattle.rules.specs.Slices.{first_part, second_part}
@@ -21,7 +20,7 @@ row_rest-requires c =
     record {
       share_words_in_bounds = search rules;
       k_bound = omega arith;
-      first_below_second = λ i. rw (here, next) (omega (arith, cut_whole at.part at.span (omega arith) (omega arith) r i))
+      first_below_second = λ i. rw (here, next) (omega (arith, cut_whole at.part at.span (omega arith) (omega arith) r i));
     }
 
 pub returns : goal.returns

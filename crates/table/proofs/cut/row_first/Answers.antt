@@ -2,7 +2,6 @@
 -- By the law `row_put`.
 use Prim.Native.Nat.{◌+◌, ◌-◌, ◌*◌}
 use native.Mathlib.Omega.{arith}
-use borrow.Author.Rules.{rules}
 use Rattle.rules.specs.Slices.{first_part}
 use Rattle.table.proofs.Rowed.{row_put}
 use Rattle.table.proofs.cut.row_first.Goals as goal

@@ -3,7 +3,6 @@
 use Prim.Native.Nat.{◌+◌, ◌-◌, ◌*◌}
 use native.Mathlib.Numerals.{add-one}
 use native.Mathlib.Omega.{arith}
-use borrow.Author.Rules.{rules}
 use Rattle.table.proofs.Rowed.{two_below, row_less}
 use Rattle.table.proofs.cut.row_rest.Goals as goal
 

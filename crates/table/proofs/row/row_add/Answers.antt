@@ -13,7 +13,7 @@ add-requires c =
     record {
       row_len = search rules;
       slot_lt_slot_count = search rules;
-      grains_bound = rw (row_part c.args.k (a + 64 - a) c.args.shares.now (omega arith) (omega arith)) c.requires.grains_bound
+      grains_bound = rw (row_part c.args.k (a + 64 - a) c.args.shares.now (omega arith) (omega arith)) c.requires.grains_bound;
     }
 
 pub returns : goal.returns

@@ -2,7 +2,6 @@
 -- Any routine on one row becomes one on the table by the law `row_put`.
 use Prim.Native.Nat.{◌+◌, ◌-◌, ◌*◌}
 use native.Mathlib.Omega.{arith}
-use borrow.Author.Rules.{rules}
 use Rattle.rules.specs.Station.{zeros}
 use Rattle.table.proofs.Rowed.{row_put}
 use Rattle.table.proofs.row.row_clear.Goals as goal

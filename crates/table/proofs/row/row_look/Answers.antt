@@ -2,7 +2,6 @@
 -- So what `look` promises of the part holds of the row.
 use Prim.Native.Nat.{◌+◌, ◌-◌, ◌*◌}
 use native.Mathlib.Omega.{arith}
-use borrow.Author.Rules.{rules}
 use Rattle.table.proofs.Rowed.{row_part}
 use Rattle.table.proofs.row.row_look.Goals as goal
 

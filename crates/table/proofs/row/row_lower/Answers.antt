@@ -13,7 +13,7 @@ lower-requires c =
     record {
       row_len = search rules;
       lower = c.requires.lower;
-      shares_fit = rw (row_part c.args.k (a + 64 - a) c.args.shares.now (omega arith) (omega arith)) c.requires.shares_fit
+      shares_fit = rw (row_part c.args.k (a + 64 - a) c.args.shares.now (omega arith) (omega arith)) c.requires.shares_fit;
     }
 
 pub returns : goal.returns

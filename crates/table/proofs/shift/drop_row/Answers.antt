@@ -2,7 +2,7 @@
 -- The last row in use is then written over with zeros.
 use mathlib.Core.Path.{◌≡◌, sym, ap, ◌∙◌}
 use mathlib.Core.List.{[]}
-use Prim.Native.Nat.{◌+◌, ◌-◌, ◌≤◌, suc}
+use Prim.Native.Nat.{◌+◌, ◌-◌, suc}
 use native.Mathlib.Omega.{arith}
 use native.Mathlib.Nat.{add_comm}
 use lib.ListN.{length, drop, get_or, length-drop}
@@ -10,7 +10,7 @@ use lib.Seq.{get_or-drop}
 use borrow.Author.Rules.{rules}
 use Rattle.rules.specs.Station.{zeros}
 use Rattle.rules.specs.Words.{rows_of, row_at, moved_up}
-use Rattle.rows.proofs.Moves.{Mixed, mixed_none, mixed_more, mixed_ahead, mixed_set}
+use Rattle.rows.proofs.Moves.{mixed_none, mixed_more, mixed_ahead, mixed_set}
 use Rattle.table.proofs.Rowed.{length-rows_of}
 use Rattle.table.proofs.shift.drop_row.Goals as goal
 

@@ -1,11 +1,11 @@
 -- `make_room` moves rows down, the last first: when j is the last row that has not moved, the rows are those of `moved_down j`.
 -- So the loop's turns are the steps of that definition, from n down to k.
 use mathlib.Core.Path.{◌≡◌, refl, sym, ◌∙◌}
-use Prim.Native.Nat.{◌-◌, ◌≤◌}
+use Prim.Native.Nat.{◌-◌}
 use native.Mathlib.Omega.{arith}
 use lib.ListN.{length}
 use borrow.Author.Rules.{rules}
-use Rattle.rules.specs.Words.{rows_of, row_at, Rowed, moved_down}
+use Rattle.rules.specs.Words.{rows_of, row_at}
 use Rattle.table.proofs.Rowed.{length-rows_of}
 use Rattle.table.proofs.Shifted.{down_none, down_more}
 use Rattle.table.proofs.shift.make_room.Goals as goal

@@ -3,7 +3,6 @@
 use Prim.Native.Nat.{◌+◌, ◌-◌, ◌*◌}
 use native.Mathlib.Omega.{arith}
 use native.Mathlib.Numerals.{add-one}
-use borrow.Author.Rules.{rules}
 use Rattle.table.proofs.Rowed.{row_up}
 use Rattle.table.proofs.shift.row_up.Goals as goal
 

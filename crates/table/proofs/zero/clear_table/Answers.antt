@@ -2,12 +2,11 @@
 -- 64 turns clear them all.
 use mathlib.Core.Path.{◌≡◌, sym, ◌∙◌}
 use mathlib.Core.List.{[]}
-use Prim.Native.Nat.{◌-◌, ◌≤◌}
 use native.Mathlib.Omega.{arith}
-use lib.ListN.{length, drop}
+use lib.ListN.{length}
 use borrow.Author.Rules.{rules}
 use Rattle.rules.specs.Words.{rows_of, rows_in}
-use Rattle.rows.proofs.Moves.{Mixed, mixed_none, mixed_more, mixed_all}
+use Rattle.rows.proofs.Moves.{mixed_none, mixed_more, mixed_all}
 use Rattle.table.proofs.Rowed.{length-rows_of}
 use Rattle.table.proofs.Zeros.{length-rows_in, rows_in_at}
 use Rattle.table.proofs.zero.clear_table.Goals as goal

@@ -4,7 +4,6 @@ use mathlib.Core.Path.{◌≡◌, refl, sym, ◌∙◌}
 use Prim.Native.Nat.{◌+◌, ◌-◌, ◌*◌}
 use native.Mathlib.Omega.{arith}
 use lib.ListN.{take, drop}
-use borrow.Author.Rules.{rules}
 use Rattle.table.proofs.Rowed.{drop-take}
 use Rattle.table.proofs.Zeros.{part_long, four_sums}
 use Rattle.table.proofs.zero.rows_zero.Goals as goal
@@ -25,7 +24,7 @@ four_zero-requires c =
     record {
       b_len = two ∙ sym one;
       c_len = three ∙ sym one;
-      d_len = four ∙ sym one
+      d_len = four ∙ sym one;
     }
 
 pub returns : goal.returns

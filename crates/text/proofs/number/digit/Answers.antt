@@ -1,6 +1,5 @@
 -- `digit`: the digits' bytes stand in order from 48 on.
 use native.Mathlib.Omega.{arith}
-use borrow.Author.Rules.{rules}
 use Rattle.text.proofs.number.digit.Goals as goal
 
 pub returns : goal.returns

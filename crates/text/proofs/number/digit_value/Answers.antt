@@ -1,6 +1,5 @@
 -- `digit_value`: a digit's byte is at least 48.
 use native.Mathlib.Omega.{arith}
-use borrow.Author.Rules.{rules}
 use Rattle.text.proofs.Values.{digit_is}
 use Rattle.text.proofs.number.digit_value.Goals as goal
 

@@ -2,7 +2,6 @@
 use mathlib.Core.Path.{◌≡◌, sym, ◌∙◌}
 use Prim.Native.Nat.{ℕ}
 use native.Mathlib.Omega.{arith}
-use borrow.Author.Rules.{rules}
 use mathlib.Core.Bool.{true, false}
 use Rattle.text.proofs.Values.{not-number, lead_zero, lead_short, lead_other, number_rest}
 use Rattle.text.proofs.number.is_number.Goals as goal

@@ -1,13 +1,11 @@
 -- `spell` writes the digits from the last: those still to be written and what stands behind them are the number's text and what stood
 -- from `end` on. `left` places hold what is left of the number.
 use mathlib.Core.Path.{◌≡◌, refl}
-use mathlib.Core.List.{◌++◌}
-use Prim.Native.Nat.{◌+◌, ◌-◌, ◌<◌, ◌≤◌}
+use Prim.Native.Nat.{◌+◌, ◌-◌}
 use native.Mathlib.Omega.{arith}
-use borrow.Author.Rules.{rules}
-use lib.ListN.{length, drop, length-set}
+use lib.ListN.{length-set}
 use Rattle.text.specs.Grammar.{number_text}
-use Rattle.text.proofs.Decimal.{Spelling, spelling_more, spelling_some, spelling_last}
+use Rattle.text.proofs.Decimal.{spelling_more, spelling_some, spelling_last}
 use Rattle.text.proofs.number.spell.Goals as goal
 
 pub loop-rest-init : goal.loop-rest-init

@@ -2,12 +2,10 @@
 -- value so far is above it, so that nothing overflows.
 use mathlib.Core.Path.{◌≡◌, refl, sym, ◌∙◌}
 use mathlib.Core.List.{[]}
-use Prim.Native.Nat.{◌+◌, ◌-◌, ◌*◌, ◌≤◌}
+use Prim.Native.Nat.{◌+◌, ◌-◌, ◌*◌}
 use native.Mathlib.Omega.{arith}
-use borrow.Author.Rules.{rules}
-use lib.ListN.{length, drop, get_or, drop_of_length-le}
-use mathlib.Core.Bool.{true}
-use Rattle.text.specs.Grammar.{is_digit, all_digits, value_from, value_of}
+use lib.ListN.{drop, get_or, drop_of_length-le}
+use Rattle.text.specs.Grammar.{is_digit, value_from, value_of}
 use Rattle.text.proofs.Values.{digits_next, value-next, value-most, number_is, number_below, both}
 use Rattle.text.proofs.number.value.Goals as goal
 

@@ -1,7 +1,6 @@
 -- `is_mark`: a mark has two bytes, and a piece is the mark where both are the same.
 use mathlib.Core.Path.{sym, ◌∙◌}
 use native.Mathlib.Omega.{arith}
-use borrow.Author.Rules.{rules}
 use lib.ListN.{get_or}
 use borrow.Author.Tests.{eq-eqb, ne_eqb}
 use Rattle.text.proofs.Pieces.{same_other, same_two}

@@ -1,6 +1,5 @@
 -- `one_field` asks for the marks in the definition's order; each answer is told by the marks asked for so far.
 use mathlib.Core.Path.{◌≡◌, sym, ◌∙◌}
-use borrow.Author.Rules.{rules}
 use mathlib.Core.Bool.{true, false}
 use Rattle.rules.specs.Checked.{same}
 use Rattle.text.specs.Grammar.{one_field, mark_co, mark_wd, mark_rl, mark_ad}

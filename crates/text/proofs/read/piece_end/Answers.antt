@@ -1,10 +1,6 @@
 -- `piece_end`: where the piece from i on ends, the piece from the beginning ends; a space or the line's end stops it.
-use mathlib.Core.Path.{◌≡◌}
-use Prim.Native.Nat.{◌+◌, ◌-◌, ◌≤◌}
 use native.Mathlib.Omega.{arith}
-use borrow.Author.Rules.{rules}
-use lib.ListN.{length, drop, length-drop}
-use Rattle.text.specs.Handed.{first_piece}
+use lib.ListN.{drop, length-drop}
 use Rattle.text.proofs.Pieces.{piece_here, piece_next, piece_within}
 use Rattle.text.proofs.read.piece_end.Goals as goal
 

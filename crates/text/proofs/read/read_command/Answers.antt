@@ -2,7 +2,6 @@
 use mathlib.Core.Path.{sym, ◌∙◌}
 use Prim.Native.Nat.{◌+◌}
 use native.Mathlib.Omega.{arith}
-use borrow.Author.Rules.{rules}
 use lib.ListN.{drop, length-take}
 use Rattle.text.proofs.Pieces.{pieces-first, pieces_at, pieces_end, pieces-some, long-line, short-line, alone, four}
 use Rattle.text.proofs.read.read_command.Goals as goal

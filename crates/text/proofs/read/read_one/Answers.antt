@@ -1,6 +1,5 @@
 -- `read_one`: the piece is a number, and then the mark decides.
 use mathlib.Core.Path.{◌≡◌, sym, ◌∙◌}
-use borrow.Author.Rules.{rules}
 use mathlib.Core.Bool.{true, false}
 use Rattle.text.specs.Grammar.{is_number, of_pieces}
 use Rattle.text.proofs.read.read_one.Goals as goal

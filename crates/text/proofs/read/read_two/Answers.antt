@@ -1,6 +1,5 @@
 -- `read_two`: both pieces are numbers, and then the mark decides.
 use mathlib.Core.Path.{◌≡◌, sym, ◌∙◌}
-use borrow.Author.Rules.{rules}
 use mathlib.Core.Bool.{true, false}
 use Rattle.text.specs.Grammar.{is_number, of_pieces}
 use Rattle.text.proofs.read.read_two.Goals as goal

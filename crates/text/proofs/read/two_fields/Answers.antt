@@ -1,6 +1,5 @@
 -- `two_fields`: the only mark with two numbers is TK.
 use mathlib.Core.Path.{◌≡◌, sym, ◌∙◌}
-use borrow.Author.Rules.{rules}
 use mathlib.Core.Bool.{true, false}
 use Rattle.rules.specs.Checked.{same}
 use Rattle.text.specs.Grammar.{two_fields, mark_tk}

@@ -1,6 +1,5 @@
 -- `field`: a space in front of the number.
 use native.Mathlib.Omega.{arith}
-use borrow.Author.Rules.{rules}
 use Rattle.text.proofs.Behind.{before_space}
 use Rattle.text.proofs.write.field.Goals as goal
 

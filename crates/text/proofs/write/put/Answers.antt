@@ -1,11 +1,10 @@
 -- `put`: after i turns the first i bytes of the text stand from `at` on, and nothing else has changed.
 use mathlib.Core.Path.{◌≡◌, refl, ◌∙◌}
 use mathlib.Core.List.{append_assoc}
-use Prim.Native.Nat.{◌+◌, ◌-◌, ◌≤◌}
+use Prim.Native.Nat.{◌+◌}
 use native.Mathlib.Numerals.{add-one}
 use native.Mathlib.Omega.{arith}
-use borrow.Author.Rules.{rules}
-use lib.Seq.{paste, paste-zero, paste-suc, take-length}
+use lib.Seq.{paste-zero, paste-suc, take-length}
 use lib.ListN.{length, take, drop, length-set}
 use Rattle.text.specs.Grammar.{put_at}
 use Rattle.text.proofs.write.put.Goals as goal
@@ -25,5 +24,5 @@ returns c =
     let end : c.loop-i.i ≡ length at.text.now = omega arith in
     record {
       value = omega arith;
-      out_after = c.loop-i.invariant.2 ∙ rw (end, take-length at.text.now) (append_assoc (take at.at at.out.now) at.text.now (drop (at.at + length at.text.now) at.out.now))
+      out_after = c.loop-i.invariant.2 ∙ rw (end, take-length at.text.now) (append_assoc (take at.at at.out.now) at.text.now (drop (at.at + length at.text.now) at.out.now));
     }

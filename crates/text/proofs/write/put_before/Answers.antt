@@ -1,6 +1,5 @@
 -- `put_before`: what `put` leaves, seen from the place where the text begins.
 use native.Mathlib.Omega.{arith}
-use borrow.Author.Rules.{rules}
 use Rattle.text.proofs.Behind.{before_text}
 use Rattle.text.proofs.write.put_before.Goals as goal
 

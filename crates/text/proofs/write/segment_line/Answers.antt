@@ -2,7 +2,6 @@
 use mathlib.Core.Path.{◌≡◌}
 use mathlib.Core.List.{[]}
 use native.Mathlib.Omega.{arith}
-use borrow.Author.Rules.{rules}
 use lib.ListN.{drop, drop_of_length-le}
 use Rattle.text.specs.Grammar.{sg_text}
 use Rattle.text.proofs.Behind.{before_on}
@@ -20,5 +19,5 @@ returns c =
     let core = before_on c.field-a.ensures slot in
     record {
       upper_bound = omega arith;
-      line_after = before_on c.put_before.ensures core
+      line_after = before_on c.put_before.ensures core;
     }

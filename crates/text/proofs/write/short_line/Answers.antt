@@ -2,7 +2,6 @@
 use mathlib.Core.Path.{◌≡◌}
 use mathlib.Core.List.{[]}
 use native.Mathlib.Omega.{arith}
-use borrow.Author.Rules.{rules}
 use lib.ListN.{drop, drop_of_length-le}
 use Rattle.text.specs.Grammar.{short_text}
 use Rattle.text.proofs.Behind.{before_on}
@@ -17,5 +16,5 @@ returns c =
     let number = before_on c.field-a.ensures end in
     record {
       upper_bound = omega arith;
-      line_after = before_on c.put_before.ensures number
+      line_after = before_on c.put_before.ensures number;
     }

@@ -1,5 +1,4 @@
 -- `write_done`: a line of the mark OK and a number.
-use borrow.Author.Rules.{rules}
 use Rattle.text.specs.Grammar.{ok_text}
 use Rattle.text.proofs.write.write_done.Goals as goal
 

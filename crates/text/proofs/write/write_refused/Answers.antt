@@ -1,5 +1,4 @@
 -- `write_refused`: a line of the mark NO and a number.
-use borrow.Author.Rules.{rules}
 use Rattle.text.specs.Grammar.{no_text}
 use Rattle.text.proofs.write.write_refused.Goals as goal
 

@@ -1,6 +1,5 @@
 -- `write_short`: what stands from the line's beginning on is the whole text, and `put` writes it.
 use native.Mathlib.Omega.{arith}
-use borrow.Author.Rules.{rules}
 use Rattle.text.proofs.Behind.{to_end}
 use Rattle.text.proofs.write.write_short.Goals as goal
 

@@ -1,12 +1,8 @@
 -- `holder_at` finds who holds a core in a grain: as long as the shares end at or before that place on the line, the slots left decide.
 -- The first whose share ends past it holds the core, and after the last slot nobody does.
-use mathlib.Core.List.{List}
-use Prim.Native.Nat.{ℕ, ◌+◌, ◌-◌, ◌*◌, ◌≤◌}
 use native.Mathlib.Nat.{mul-le-mul_left}
 use native.Mathlib.Omega.{arith}
-use borrow.Author.Rules.{rules}
-use Rattle.rules.specs.Station.{slot_count}
-use Rattle.wrap.proofs.Holds.{Left, left-all, left_none, left_later, left_here}
+use Rattle.wrap.proofs.Holds.{left-all, left_none, left_later, left_here}
 use Rattle.wrap.proofs.holder.holder_at.Goals as goal
 
 pub overflow_mul-begin : goal.overflow_mul-begin

@@ -2,11 +2,8 @@
 -- The first whose share ends past it holds the core, and after the last slot nobody does.
 use mathlib.Core.List.{List}
 use Prim.Native.Nat.{ℕ, ◌+◌, ◌-◌, ◌*◌, ◌≤◌}
-use native.Mathlib.Nat.{mul-le-mul_left}
-use native.Mathlib.Omega.{arith}
-use borrow.Author.Rules.{rules}
 use Rattle.rules.specs.Station.{slot_count}
-use Rattle.wrap.proofs.Holds.{Left, left-all, left_none, left_later, left_here}
+use Rattle.wrap.proofs.Holds.{Left}
 use Rattle.wrap.proofs.holder.holder_at.Given as goal
 
 pub record Seeking (row : List ℕ) (T core grain end slot : ℕ) : Type 0 where
@@ -16,7 +13,7 @@ pub record Seeking (row : List ℕ) (T core grain end slot : ℕ) : Type 0 where
   pub left : Left core grain T row slot end
 
 abbrev pub invariant-loop-slot : goal.invariant-loop-slot
-invariant-loop-slot l =  Seeking l.row l.slice l.core l.grain l.end l.slot
+invariant-loop-slot l = Seeking l.row l.slice l.core l.grain l.end l.slot
 
 abbrev pub decreases-loop-slot : goal.decreases-loop-slot
-decreases-loop-slot l =  slot_count - l.slot
+decreases-loop-slot l = slot_count - l.slot

@@ -2,7 +2,6 @@
 -- A segment ends by the slice's end (`found_by`), so nothing overflows.
 use mathlib.Core.Path.{ap, sym, ◌∙◌}
 use native.Mathlib.Omega.{arith}
-use borrow.Author.Rules.{rules}
 use Rattle.rules.specs.Station.{grains}
 use Rattle.rules.specs.Advance.{idle_until}
 use Rattle.wrap.specs.Found.{holding_of}

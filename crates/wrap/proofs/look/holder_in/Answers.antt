@@ -21,7 +21,7 @@ held-requires c =
     let within = c.if-state-core.false in
     record {
       front = c.requires.front (omega arith);
-      core_lt_most_cores = omega (arith, c.requires.cores_le_most_cores)
+      core_lt_most_cores = omega (arith, c.requires.cores_le_most_cores);
     }
 
 pub returns : goal.returns

@@ -2,7 +2,6 @@
 -- Segments after segments are the segments of both, and 79 in all leave room for each.
 use mathlib.Core.Path.{ap}
 use native.Mathlib.Omega.{arith}
-use borrow.Author.Rules.{rules}
 use lib.ListN.{length}
 use Rattle.rules.specs.Wrap.{Segment, clip}
 use Rattle.line.specs.Line.{on_line}

@@ -1,7 +1,6 @@
 -- `put` writes what the window shows of a segment: itself as far as it is kept, or nothing.
 -- Its test is the definition's, with the plan start's grain added on both sides.
 use native.Mathlib.Omega.{arith}
-use borrow.Author.Rules.{rules}
 use Rattle.wrap.specs.Shown.{segment_of, window_of}
 use Rattle.wrap.proofs.Shown.{clip-some, clip_none, wrote_none}
 use Rattle.wrap.proofs.segments.put.Goals as goal

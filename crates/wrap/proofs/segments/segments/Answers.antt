@@ -1,20 +1,12 @@
 -- `segments` writes the segments that the window shows: what stands, and what the slots from `slot` on would add, are those asked for.
 -- At most 79 exist, so there is room for each slot's.
-use mathlib.Core.Path.{◌≡◌, refl}
-use mathlib.Core.List.{List}
-use Prim.Native.Nat.{ℕ, ◌-◌, ◌<◌, ◌≤◌}
+use mathlib.Core.Path.{refl}
 use native.Mathlib.Omega.{arith}
-use borrow.Author.Rules.{rules}
-use lib.ListN.{length}
-use Rattle.rules.specs.Station.{most_cores, slot_count}
-use Rattle.rules.specs.Wrap.{Segment, Window}
+use Rattle.rules.specs.Station.{most_cores}
 use Rattle.rules.proofs.Count.{wrap-most}
-use Rattle.line.specs.declared.place.Place.{Place}
-use Rattle.wrap.specs.Asked.{most_segments}
-use Rattle.line.specs.Line.{on_line}
-use Rattle.wrap.specs.Shown.{window_of, shown, shown_in}
+use Rattle.wrap.specs.Shown.{window_of, shown}
 use Rattle.line.proofs.Line.{line-start}
-use Rattle.wrap.proofs.Shown.{Rest, rest_all, rest_none, rest_few, rest_more}
+use Rattle.wrap.proofs.Shown.{rest_all, rest_none, rest_few, rest_more}
 use Rattle.wrap.proofs.segments.segments.Goals as goal
 
 pub loop-slot-init : goal.loop-slot-init

@@ -6,7 +6,6 @@ use Prim.Native.Nat.{◌+◌, ◌*◌}
 use native.Mathlib.Numerals.{towards_suc}
 use lib.Seq.{sets-eq}
 use native.Mathlib.Omega.{arith}
-use borrow.Author.Rules.{rules}
 use lib.ListN.{length-set}
 use Rattle.rules.specs.Words.{segments_flat}
 use Rattle.wrap.specs.Shown.{segment_of, written_from}

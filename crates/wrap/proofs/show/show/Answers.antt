@@ -1,7 +1,6 @@
 -- `show` shows slice 0 from the clock to a tick: its row is the first 64 words, and its window lies within the slice.
 -- What the wrap asks of the row is what `Front` says of the words.
 use native.Mathlib.Omega.{arith}
-use borrow.Author.Rules.{rules}
 use Rattle.wrap.proofs.show.show.Goals as goal
 
 pub segments-n-requires : goal.segments-n-requires
@@ -10,5 +9,5 @@ segments-n-requires c =
       laid = c.requires.front.laid;
       shown = omega arith;
       segment_words_in_bounds = omega arith;
-      row_bound = c.requires.front.fits
+      row_bound = c.requires.front.fits;
     }
