@@ -12,6 +12,7 @@ use slots::task::rate_of;
 use slots::word::in_use;
 
 // Of an open, by the number of words lent and the cores; it asks for no table.
+#[tactic(auto, unfolding(rules::specs::Calls::refused, rules::specs::Calls::open_refusals))]
 pub fn open_reason(words: usize, cores: u64) -> u64
     ensures { result ≡ refused (open_refusals words cores) }
 {
@@ -25,6 +26,7 @@ pub fn open_reason(words: usize, cores: u64) -> u64
 }
 
 // Of a declare. The load is the rates of all tasks together.
+#[tactic(auto, unfolding(crate::specs::Reasons::declare_number))]
 pub fn declare_reason(state: State, load: u64, period: u64, cost: u64) -> u64
     requires cores_le_most_cores { state.cores ≤ most_cores }
     requires load_bound { load ≤ grains most_cores }
@@ -77,6 +79,7 @@ fn is_among(ends: &[u64], d: u64) -> bool
 }
 
 // Of a release whose job is due at d.
+#[tactic(auto, unfolding(crate::specs::Reasons::due_number))]
 pub fn due_reason(d: u64, count: u64, ends: &[u64]) -> u64
     requires { length ends.now ≡ row_count }
     ensures { result ≡ due_number d count ends.now }

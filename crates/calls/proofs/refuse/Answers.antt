@@ -1,12 +1,8 @@
 -- `refuse` hands back what it was given, with the number. Assumes a number above 0.
 use Rattle.calls.specs.Called.{leaves, unchanged}
 use Rattle.calls.proofs.Called.{refused-answer}
-use Rattle.calls.proofs.refuse.Statement.{statement}
-use Rattle.calls.proofs.refuse.Tie as tie
+use Rattle.calls.proofs.refuse.Goals as goal
 
-returns : tie.Need-returns
+pub returns : goal.returns
 unfolding leaves unchanged
 returns c = λ lists words buffer. rw (refused-answer c.args.number c.requires)
-
-pub refuse-spec : {M : Type 1} → statement M
-refuse-spec = tie.close (tie.spec returns)

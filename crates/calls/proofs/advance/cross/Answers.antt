@@ -1,0 +1,32 @@
+-- `cross` drops the first boundary with its row and ends the jobs due at it: what is held then is the table at the boundary.
+use mathlib.Core.Path.{◌∙◌}
+use Rattle.rules.specs.Held.{ends_of}
+use Rattle.plan.proofs.Planned.{planned-long}
+use Rattle.calls.proofs.Joint.{planned-held, first-end, lent_length}
+use Rattle.calls.proofs.Onward.{crossed_there}
+use Rattle.calls.proofs.advance.cross.Goals as goal
+
+pub drop_boundary-requires : goal.drop_boundary-requires
+unfolding ends_of
+drop_boundary-requires c = let a = c.requires.agrees in record {
+  share_words_in_bounds = a.long;
+  planned = planned-held a;
+  count_nonzero = c.requires.count_nonzero;
+}
+
+pub end_jobs-requires : goal.end_jobs-requires
+unfolding ends_of
+end_jobs-requires c =
+    let dropped = c.drop_boundary in
+    lent_length c.args.lists.now dropped.new.ends c.requires.agrees.holds.lists (planned-long dropped.ensures.left)
+
+pub returns : goal.returns
+unfolding ends_of
+returns c =
+    let a = c.requires.agrees in
+    let ls = c.args.lists.now in
+    let dropped = c.drop_boundary in
+    let jobs = c.end_jobs in
+    let long = jobs.auto.lists ∙ lent_length ls dropped.new.ends a.holds.lists (planned-long dropped.ensures.left) in
+    let both = crossed_there a dropped.ensures.left long (rw (first-end ls) at jobs.ensures) dropped.ensures.shares_unchanged in
+    record { lists_after = rw (first-end ls) both.0; shares_after = both.1 }
