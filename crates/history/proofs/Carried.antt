@@ -118,6 +118,7 @@ carried_stamps p words (m ∷ ms) wide ok =
 pub carried_never_1 : (p : Planner) (words : List ℕ) (ms : List Made) → length p.lists ≡ list_words → is_sound_in p words ≡ true
     → (l : Left) → Memᴰ l (carried p words ms) → l.answer.number ≡ 1 → ⊥
 unfolding carried
+carried_never_1 p words [] wide ok l x4 one = elim x4 [ ]
 carried_never_1 p words (m ∷ ms) wide ok l (Memᴰ.head is) one =
     never_one (length words) (table_of p words) (call_of m) (agrees p words wide ok).long (sound_of p words ok) (sym (ap (λ a. a.number) (ap (λ k. k.answer) is ∙ next-answer p words wide ok m)) ∙ one)
 carried_never_1 p words (m ∷ ms) wide ok l (Memᴰ.tail later) one =

@@ -102,7 +102,7 @@ module _ (slot rate d : ℕ) where
       given_cases slot rate d (λ w. total slot w ≡ total slot (s ∷ ss) + rate * (d - lo)) lo s ss
       (λ l. rw (get_or-set_same s.shares slot _ 0 (omega (arith, r.0.1)))
       (by_eq d s.end
-      (λ q. rw q (omega (arith, rw q at (given-past s.end ss (omega arith) r.1))))
+      (λ q. rw q (omega (arith, given-past s.end ss (omega arith) r.1)))
       (λ ne. let ticks : (s.end - lo) + (d - s.end) ≡ d - lo = omega (arith, r.0.0) in
       omega (arith, given-total s.end ss wide r.1 (rw ne_eqb at at), ap (λ n. rate * n) ticks))))
       (λ g. let ne : d ≡ s.end → ⊥ = omega arith in
