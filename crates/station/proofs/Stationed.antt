@@ -10,7 +10,7 @@ use borrow.Author.Tests.{lt-ltb, le-ltb}
 use Rattle.rules.proofs.Floor.{by_bool}
 use Rattle.rules.specs.Advance.{Holding, idle_until, idle, holder_of}
 use Rattle.rules.specs.Calls.{Answer as Handed, Call, refusal, refused, open_refusals, done, holder_number}
-use Rattle.rules.specs.Held.{Planner, planner, list_words, table_of, is_sound_in}
+use Rattle.rules.specs.Held.{Planner, list_words, table_of, is_sound_in}
 use Rattle.wrap.specs.declared.look.Holder.{Holder}
 use Rattle.wrap.specs.declared.look.Holder.TheVariants.{Held, IdleUntil, Idle, Refused as Refused'}
 use Rattle.wrap.specs.Holding.{Told, told_by, told_if}

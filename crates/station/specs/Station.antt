@@ -3,7 +3,6 @@ use Rattle.std.specs.Prelude.{cond, List, [], ◌++◌, ℕ, zero, suc, ltb, len
 use Rattle.rules.specs.Station.{slot_count}
 use Rattle.rules.specs.Advance.{Holding, held, idle_until, idle}
 use Rattle.rules.specs.Calls.{Answer, Call, refusal}
-use Rattle.wrap.specs.Holding.{Told}
 use Rattle.calls.specs.Called.{Left, called, opening}
 use Rattle.calls.specs.Holding.{told}
 use Rattle.station.specs.Area.{state_words, planner_in, words_for}

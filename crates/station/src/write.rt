@@ -68,6 +68,7 @@ pub fn tell(res: &mut [u64], number: u64, value: u64, count: u64) -> u64
 }
 
 // A call's answer into a result area.
+#[tactic(auto, unfolding(crate::specs::Put::plain, crate::specs::Result::answered))]
 pub fn tell_answer(answer: Answer, res: &mut [u64]) -> u64
     requires { result_words ≤ length res.old }
     ensures value { result ≡ (plain answer).number }
@@ -80,6 +81,7 @@ pub fn tell_answer(answer: Answer, res: &mut [u64]) -> u64
 }
 
 // Holder's answer into a result area.
+#[tactic(auto, unfolding(crate::specs::Put::plain_holder, crate::specs::Result::answered))]
 pub fn tell_holder(holder: Holder, res: &mut [u64]) -> u64
     requires { result_words ≤ length res.old }
     ensures value { result ≡ (plain_holder holder).number }
