@@ -87,8 +87,8 @@ called_printable p words buffer call =
 
 opened_printable : (n : ℕ) (p : Planner) (words : List ℕ) (cores : ℕ) → Printable (opened_by n p words cores).answer
 unfolding opened_by held_as unchanged
-opened_printable zero p words cores = done_printable cores _
-opened_printable (suc n) p words cores = refusal_printable (suc n)
+opened_printable zero p _ cores = done_printable cores _
+opened_printable (suc n) p _ cores = refusal_printable (suc n)
 
 -- and of an open
 pub opening_printable : (p : Planner) (words : List ℕ) (cores : ℕ) → Printable (opening p words cores).answer

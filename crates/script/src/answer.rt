@@ -15,7 +15,7 @@ use text::{Command, read_command, write_done, write_refused, write_segment};
 fn print_segment(segments: &[u64], k: usize, out: &mut [u8], at: usize) -> usize
     requires k_lt_most_segments { k < most_segments }
     requires segment_words_in_bounds { segment_words ≤ length segments.now }
-    requires at_in_bounds { at + 87 ≤ length out.old }
+    requires room { at + 87 ≤ length out.old }
     ensures value { result ≡ at + length (segment_text (drop (4 * k) segments.now)) }
     ensures out_after { out.new ≡ put_at at (segment_text (drop (4 * k) segments.now)) out.old }
 {

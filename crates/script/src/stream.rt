@@ -23,7 +23,7 @@ fn answer_kept(
     requires answer_bytes_in_bounds { answer_bytes ≤ length out.old }
     requires line_bytes_in_bounds { line_bytes ≤ length line.now }
     ensures used_le_answer_bytes { result.used ≤ answer_bytes }
-    ensures by_index { (kept : List ℕ) → Keeps line.now len kept
+    ensures says { (kept : List ℕ) → Keeps line.now len kept
         → Answers (drilled (in_struct p) shares.old segments.old kept)
         result shares.new segments.new out.old out.new }
 {
@@ -47,10 +47,10 @@ pub fn feed(
     requires answer_bytes_in_bounds { answer_bytes ≤ length out.old }
     requires line_bytes_in_bounds { line_bytes ≤ length line.old }
     requires len_bound { len ≤ suc line_bytes }
-    ensures len_bound_2 { result.len ≤ suc line_bytes }
+    ensures kept_bound { result.len ≤ suc line_bytes }
     ensures used_value { result.used ≡ taken piece.now }
     ensures written_le_answer_bytes { result.written ≤ answer_bytes }
-    ensures by_index { (kept : List ℕ) → Keeps line.old len kept
+    ensures says { (kept : List ℕ) → Keeps line.old len kept
         → Comes (fed (midst (silent (in_struct p) shares.old segments.old) kept)
         (take result.used piece.now))
         result shares.new segments.new line.new out.old out.new }
@@ -87,7 +87,7 @@ pub fn finish(
     requires answer_bytes_in_bounds { answer_bytes ≤ length out.old }
     requires line_bytes_in_bounds { line_bytes ≤ length line.now }
     ensures used_le_answer_bytes { result.used ≤ answer_bytes }
-    ensures by_index { (kept : List ℕ) → Keeps line.now len kept
+    ensures says { (kept : List ℕ) → Keeps line.now len kept
         → Answers (lastly (silent (in_struct p) shares.old segments.old) kept)
         result shares.new segments.new out.old out.new }
 {
@@ -114,7 +114,7 @@ pub fn feed_lines(
     requires line_bytes_in_bounds { line_bytes ≤ length line.old }
     requires len_bound { len ≤ suc line_bytes }
     ensures goes { Goes (length piece.now) (length out.old) result }
-    ensures by_index { (kept : List ℕ) → Keeps line.old len kept
+    ensures says { (kept : List ℕ) → Keeps line.old len kept
         → Comes (fed (midst (silent (in_struct p) shares.old segments.old) kept)
         (take result.used piece.now))
         result shares.new segments.new line.new out.old out.new }

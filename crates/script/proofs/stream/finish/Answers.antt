@@ -1,0 +1,20 @@
+-- `finish` answers what is kept, where that is not empty.
+use native.Mathlib.Omega.{arith}
+use Rattle.lines.proofs.Kept.{kept_empty, kept-some}
+use Rattle.script.proofs.Feeding.{last_none, last_some}
+use Rattle.script.proofs.stream.finish.Goals as goal
+
+pub returns-then-len-eq0 : goal.returns-then-len-eq0
+returns-then-len-eq0 c =
+    record {
+      used_le_answer_bytes = omega arith;
+      says = λ kept k. last_none c.args.p c.args.shares.now c.args.segments.now c.args.out.now kept (kept_empty k c.if-len-eq0.true);
+    }
+
+pub returns : goal.returns
+returns c =
+    let a = c.answer_kept.ensures in
+    record {
+      used_le_answer_bytes = a.used_le_answer_bytes;
+      says = λ kept k. last_some c.args.p c.args.shares.now c.args.segments.now kept (kept-some k c.if-len-eq0.false) (a.says kept k);
+    }
