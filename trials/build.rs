@@ -1,4 +1,4 @@
-//! Links target/staticlib/libstation.a of the repository, which `rt staticlib station` makes. The
+//! Links target/staticlib/libstation.a of the repository, which `tools/build station` makes. The
 //! bench's packages link it by this file too.
 
 use std::path::Path;
@@ -13,7 +13,7 @@ fn main() {
     println!("cargo:rerun-if-changed={}", library.display());
     assert!(
         library.exists(),
-        "no target/staticlib/libstation.a: run `rt staticlib station`"
+        "no target/staticlib/libstation.a: run `tools/build station`"
     );
     println!("cargo:rustc-link-search=native={}", folder.display());
     println!("cargo:rustc-link-lib=static=station");

@@ -86,7 +86,8 @@ pub fn advance(
     if number != 0 {
         return refuse(state, number);
     }
-    if state.count == 0 {
+    let idle = state.count == 0;
+    if idle {
         let mut next = state;
         next.clock = tick;
         next.start = tick;

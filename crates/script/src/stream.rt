@@ -91,7 +91,8 @@ pub fn finish(
         → Answers (lastly (silent (in_struct p) shares.old segments.old) kept)
         result shares.new segments.new out.old out.new }
 {
-    if len == 0 {
+    let nothing_kept = len == 0;
+    if nothing_kept {
         return Reply {
             planner: p,
             used: 0,

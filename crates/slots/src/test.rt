@@ -38,6 +38,7 @@ fn lawful(task: Task) -> bool
 }
 
 // "each pending job's deadline is in range, above the clock and at most plan start plus period"
+#[tactic(auto, unfolding(rules::specs::Sound::in_time_test, rules::specs::Sound::every, rules::specs::Station::pending))]
 fn in_time(task: Task, clock: u64, start: u64) -> bool
     requires start_le_last_tick { start ≤ last_tick }
     requires period_le_longest_period { task.period ≤ longest_period }

@@ -37,7 +37,8 @@ pub fn holder_at(row: &[u32], slice: u64, core: u64, grain: u64) -> Found
     let mut end: u64 = 0;
     for slot in 0..SLOTS {
         end += wide(row[slot]);
-        if place < end {
+        let here = place < end;
+        if here {
             return found_in(slot, end, begin, slice);
         }
     }

@@ -28,18 +28,18 @@ none e = sym e.advance_number-number.ensures ∙ e.if-number-ne0.false
 fit : (e : Else-number-ne0) → let at = e.args in let p = planner at.state at.lists.now in (is_sound_in p at.shares.now ≡ true) × Agrees p at.shares.now
 fit e = let at = e.args in number-agrees (planner at.state at.lists.now) at.shares.now (advance at.tick (length at.segments.now)) (omega arith) (none e)
 
-pub returns-then-state-eq0 : goal.returns-then-state-eq0
-returns-then-state-eq0 c =
+pub returns-then-idle : goal.returns-then-idle
+returns-then-idle c =
     let at = c.args in
     let b = at.segments.now in
-    rested (fit (goal.at.returns-then-state-eq0 c).Else-number-ne0).1 c.if-state-eq0.true at.tick (length b) b ∙ number-done (planner at.state at.lists.now) at.shares.now (advance at.tick (length b)) (omega arith) b (none (goal.at.returns-then-state-eq0 c).Else-number-ne0)
+    rested (fit (goal.at.returns-then-idle c).Else-number-ne0).1 c.if-idle.true at.tick (length b) b ∙ number-done (planner at.state at.lists.now) at.shares.now (advance at.tick (length b)) (omega arith) b (none (goal.at.returns-then-idle c).Else-number-ne0)
 
 pub proceed-requires : goal.proceed-requires
 proceed-requires c =
     let at = c.args in
     let f = fit (goal.at.proceed-requires c).Else-number-ne0 in
     let room = length at.segments.now in
-    let some = c.if-state-eq0.false in
+    let some = c.if-idle.false in
     let ahead = advance_none at.state.clock at.tick room (sym (advance-number f.0 f.1 at.tick room) ∙ none (goal.at.proceed-requires c).Else-number-ne0) in
     record { agrees = f.1; some = omega arith; ahead = ahead.0; room = ahead.2 }
 

@@ -4,13 +4,13 @@ use lib.ListN.{drop, length-drop}
 use Rattle.text.proofs.Pieces.{piece_here, piece_next, piece_within}
 use Rattle.text.proofs.read.piece_end.Goals as goal
 
-pub returns-then-line-i-eq32 : goal.returns-then-line-i-eq32
-returns-then-line-i-eq32 c =
-    omega (arith, piece_here c.args.line.now c.loop-i.i (omega arith) c.if-line-i-eq32.true, c.loop-i.invariant.2)
+pub returns-then-at_space : goal.returns-then-at_space
+returns-then-at_space c =
+    omega (arith, piece_here c.args.line.now c.loop-i.i (omega arith) c.if-at_space.true, c.loop-i.invariant.2)
 
 pub loop-i-preserved : goal.loop-i-preserved
 loop-i-preserved c =
-    omega (arith, piece_next c.args.line.now c.loop-i.i (omega arith) c.if-line-i-eq32.false, c.loop-i.invariant.2)
+    omega (arith, piece_next c.args.line.now c.loop-i.i (omega arith) c.if-at_space.false, c.loop-i.invariant.2)
 
 pub returns : goal.returns
 returns c =

@@ -14,8 +14,8 @@ overflow_add-place c = omega (arith, mul-le-mul_left c.args.core c.requires.laid
 pub loop-slot-init : goal.loop-slot-init
 loop-slot-init c = record { within = omega arith; small = omega arith; before = omega arith; left = left-all _ _ _ _ }
 
-pub returns-then-place-end : goal.returns-then-place-end
-returns-then-place-end c =
+pub returns-then-here : goal.returns-then-here
+returns-then-here c =
     let k = c.loop-slot in
     let share = c.wide-end.ensures.value in
     rw c.found_in.ensures
