@@ -16,8 +16,7 @@ use Rattle.slots.specs.Lists.{Tasked}
 use Rattle.slots.proofs.Used.{used-ended}
 use Rattle.plan.specs.Planned.{Planned, slices_in}
 use Rattle.plan.proofs.Planned.{planned-long}
-use Rattle.calls.specs.declared.Answer.TheVariants.{Done}
-use Rattle.calls.specs.Called.{Holds, Agrees, answer_of, leaves, held_as}
+use Rattle.calls.specs.Called.{did, Holds, Agrees, answer_of, leaves, held_as}
 use Rattle.calls.specs.Advancing.{crossed}
 use Rattle.calls.proofs.Joint.{same-planner, same-words, left-held, written_none, used-held, planned-held}
 use Rattle.calls.proofs.First.{first_slice, no_slices}
@@ -70,13 +69,13 @@ module _ {p : Planner} {w : List ℕ} (a : Agrees p w) where
     first-reached = rw (first_slice a some)
 
     pub over_left : end ≤ tick → {q : Planner} {v : List ℕ} → q ≡ planner_of (crossed p w) → v ≡ words_of (crossed p w) ++ drop share_words w
-        → leaves q v b' (Done (min tick end) n) ≡ held_as w b (accepted t (advance tick room))
+        → leaves q v b' (did (min tick end) n) ≡ held_as w b (accepted t (advance tick room))
     unfolding leaves answer_of held_as accepted advanced advanced_in crossed
     over_left past {q} {v} there words =
         let now : advanced_in t tick t.slices ≡ at_boundary t end (drop 1 t.slices) = rw (first_slice a some, le-leb end tick past) in
         rw (now, first-reached, ← there, ← words, ← shown.0, ← shown.1)
 
-    pub short-left : tick < end → leaves (planner (moved p.state tick p.state.start p.state.count) p.lists) w b' (Done (min tick end) n) ≡ held_as w b (accepted t (advance tick room))
+    pub short-left : tick < end → leaves (planner (moved p.state tick p.state.start p.state.count) p.lists) w b' (did (min tick end) n) ≡ held_as w b (accepted t (advance tick room))
     unfolding leaves answer_of accepted advanced advanced_in
     short-left ahead =
         let now : advanced_in t tick t.slices ≡ moved_to t tick = rw (first_slice a some, lt-leb end tick ahead) in
@@ -96,7 +95,7 @@ module _ {p : Planner} {w : List ℕ} (a : Agrees p w) where
     unfolding segments_to wrap_of clipped
     none_segments tick = rw none
 
-    pub rested : (tick room : ℕ) (b : List ℕ) → leaves (planner (moved p.state tick tick p.state.count) p.lists) w b (Done tick 0) ≡ held_as w b (accepted t (advance tick room))
+    pub rested : (tick room : ℕ) (b : List ℕ) → leaves (planner (moved p.state tick tick p.state.count) p.lists) w b (did tick 0) ≡ held_as w b (accepted t (advance tick room))
     unfolding leaves answer_of accepted advanced advanced_in reached
     rested tick room b =
         let now : advanced_in t tick t.slices ≡ still t tick = rw none in

@@ -14,8 +14,7 @@ use Rattle.rules.specs.Sound.{every, is_sound}
 use Rattle.rules.specs.Words.{Rowed, rows_in, flat}
 use Rattle.rules.specs.Held.{Planner, planner, planner_of, state_of, is_sound_in, is_sound_at, table_at, flag, used_of, ends_in, list_words, task_in, tasks_in, ends_of, tasks_of}
 use Rattle.rules.proofs.Floor.{by_lt}
-use Rattle.calls.specs.declared.Answer.TheVariants.{Done}
-use Rattle.calls.specs.Called.{Holds, blank_planner, unchanged, opening, opened_by, leaves, answer_of}
+use Rattle.calls.specs.Called.{did, Holds, blank_planner, unchanged, opening, opened_by, leaves, answer_of}
 use Rattle.calls.proofs.Joint.{same-planner, left-held, written_none}
 use Rattle.calls.proofs.Round.{rows_back}
 
@@ -78,6 +77,6 @@ module _ (p : Planner) (w : List ℕ) (cores : ℕ) where
   open_room z = by_lt (length w) 4096 (λ short. let bad : ◌≡◌ {A = ℕ} 1 0 = rw (lt-ltb (length w) 4096 short) at z in absurd (omega arith)) (λ room. room)
 
   pub open_done : refused (open_refusals (length w) cores) ≡ 0 → {v : List ℕ} → Rowed w (rows_in row_count []) v
-      → leaves (planner (fresh cores) (replicate list_words 0)) v [] (Done cores 0) ≡ opening p w cores
+      → leaves (planner (fresh cores) (replicate list_words 0)) v [] (did cores 0) ≡ opening p w cores
   unfolding opening opened_by leaves answer_of done
   open_done z rowed = rw z (left-held (fresh_holds cores rowed) w [] [] [] (record { number = 0; value = cores; count = 0 }) rowed.past (sym (written_none [])))

@@ -27,8 +27,7 @@ use Rattle.plan.specs.Planned.{Planned, slices_in}
 use Rattle.plan.specs.Asked.{Replans}
 use Rattle.plan.proofs.Planned.{planned-long}
 use Rattle.plan.proofs.Replanned.{replans}
-use Rattle.calls.specs.declared.Answer.TheVariants.{Done}
-use Rattle.calls.specs.Called.{Holds, Agrees, answer_of, leaves, called, number_for}
+use Rattle.calls.specs.Called.{did, Holds, Agrees, answer_of, leaves, called, number_for}
 use Rattle.calls.proofs.Joint.{left-held, written_none, used-held, planned-held}
 use Rattle.calls.proofs.Called.{number-agrees, number-done}
 use Rattle.calls.proofs.Slotted.{used_there}
@@ -112,7 +111,7 @@ module _ (p : Planner) (w : List ℕ) (wide : length p.lists ≡ list_words) (sl
             planned = rw (stored.ends, ends-lent p.lists ends bounds) got;
           }
 
-      pub released-left : drop share_words v ≡ drop share_words w → leaves (planner (planned p.state n) lists) v [] (Done d 0) ≡ called p w [] (release slot)
+      pub released-left : drop share_words v ≡ drop share_words w → leaves (planner (planned p.state n) lists) v [] (did d 0) ≡ called p w [] (release slot)
       unfolding leaves answer_of accepted done deadline_of task_at table_of table_at
       released-left past =
           left-held released-holds w [] [] [] (record { number = 0; value = d; count = 0 }) past (sym (written_none []))

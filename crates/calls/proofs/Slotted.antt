@@ -18,9 +18,8 @@ use Rattle.rules.proofs.Held.{slots_length}
 use Rattle.rules.proofs.Tasks.{lowest_free_lem, lowest_in}
 use Rattle.slots.specs.Lists.{Tasked}
 use Rattle.slots.proofs.Used.{used-fits, used-set, flag_yes, flag_no, lowest_bit, all-used}
-use Rattle.calls.specs.declared.Answer.TheVariants.{Done}
 use Rattle.calls.specs.Reasons.{declare_number}
-use Rattle.calls.specs.Called.{Holds, Agrees, answer_of, leaves, held_as, called, number_for}
+use Rattle.calls.specs.Called.{did, Holds, Agrees, answer_of, leaves, held_as, called, number_for}
 use Rattle.calls.proofs.Joint.{left-held, written_none, used-held}
 use Rattle.calls.proofs.Called.{number-agrees, number-done}
 use Rattle.calls.proofs.Reasons.{declare-number, declare_none, withdraw-past, withdraw-number, task_none}
@@ -52,7 +51,7 @@ module _ {p : Planner} {w : List ℕ} (a : Agrees p w) {lists : List ℕ} (wide 
   }
 
   pub slot-left : (used v : ℕ) → used ≡ used_of (set (tasks_of p.lists) slot k)
-      → leaves (planner (with_used p.state used) lists) w [] (Done v 0) ≡ held_as w [] (done v (with_task (table_of p w) slot k))
+      → leaves (planner (with_used p.state used) lists) w [] (did v 0) ≡ held_as w [] (done v (with_task (table_of p w) slot k))
   unfolding leaves answer_of done
   slot-left used v is = left-held (slot-holds used is) w [] [] [] (record { number = 0; value = v; count = 0 }) refl (sym (written_none []))
 
@@ -109,7 +108,7 @@ module _ (p : Planner) (w : List ℕ) (wide : length p.lists ≡ list_words) whe
 
       pub declared-left : {lists : List ℕ} (used : ℕ) (k : Task) → k ≡ record { period = period; cost = cost; rate = rate_of period cost; deadline = 0 } → length lists ≡ list_words
           → Tasked p.lists (set ks slot k) lists → used ≡ p.state.used + 2 ^ slot
-          → leaves (planner (with_used p.state used) lists) w [] (Done slot 0) ≡ called p w [] (declare period cost)
+          → leaves (planner (with_used p.state used) lists) w [] (did slot 0) ≡ called p w [] (declare period cost)
       unfolding accepted declared table_of table_at
       declared-left used k of long stored bit =
           let some : 0 < k.period = rw of (omega (arith, declared-lawful)) in
@@ -138,7 +137,7 @@ module _ (p : Planner) (w : List ℕ) (wide : length p.lists ≡ list_words) whe
     withdrawn_bit = omega (arith, freed)
 
     pub withdrawn-left : {lists : List ℕ} (used : ℕ) → length lists ≡ list_words → Tasked p.lists (set ks slot free) lists → used + 2 ^ slot ≡ p.state.used
-        → leaves (planner (with_used p.state used) lists) w [] (Done 0 0) ≡ called p w [] (withdraw slot)
+        → leaves (planner (with_used p.state used) lists) w [] (did 0 0) ≡ called p w [] (withdraw slot)
     unfolding accepted withdrawn
     withdrawn-left used long stored bit =
         slot-left fine.1 long slot free stored used 0 (omega (arith, freed)) ∙ number-done p w (withdraw slot) wide [] z

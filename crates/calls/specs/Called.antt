@@ -1,20 +1,23 @@
 -- What each call leaves of what is held and lent.
-use Rattle.std.specs.Prelude.{◌≡◌, cond, List, [], ◌++◌, ℕ, zero, suc, ◌≤◌, length, drop}
+use Rattle.std.specs.Prelude.{◌≡◌, cond, List, [], ◌++◌, ℕ, zero, suc, ◌≤◌, length, drop, Result, Ok, Err}
+use Rattle.rules.specs.declared.Refusal.{Refusal}
+use Rattle.rules.specs.Numbers.{number_of}
 use Rattle.rules.specs.Station.{Table, share_words}
 use Rattle.rules.specs.Calls.{Answer as Handed, refusal, refused, refusals, open_refusals, Call, Outcome, opened, done, step}
 use Rattle.rules.specs.Sound.{Sound}
 use Rattle.rules.specs.Words.{words_of, written}
 use Rattle.rules.specs.Held.{Planner, planner_of, table_of, is_sound_in, used_of, list_words, ends_of, tasks_of}
 use Rattle.plan.specs.Planned.{Planned}
-use Rattle.calls.specs.declared.Answer.{Answer}
-use Rattle.calls.specs.declared.Answer.TheVariants.{Done, Refused}
+use Rattle.calls.specs.declared.Done.{Done}
 
--- an answer by document 01's number, value and count. A refusal's number is above 0: `Refused` with 0 is no answer of document 01, and
--- reads as none, so that no two answers read alike
-unfoldable pub answer_of : Answer → Handed
-answer_of (Done value count) = record { number = 0; value = value; count = count }
-answer_of (Refused zero) = record { number = 1; value = 1; count = 0 }
-answer_of (Refused (suc n)) = refusal (suc n)
+-- a call that is done, with its value and the count of segments
+abbrev pub did : ℕ → ℕ → Result Done Refusal
+did value count = Ok (record { value = value; count = count })
+
+-- an answer by document 01's number, value and count
+unfoldable pub answer_of : Result Done Refusal → Handed
+answer_of (Ok d) = record { number = 0; value = d.value; count = d.count }
+answer_of (Err r) = refusal (number_of r)
 
 -- What a call leaves: the planner, the words of the share table and of the segment buffer, and the answer.
 pub record Left : Type 0 where
@@ -26,7 +29,7 @@ pub record Left : Type 0 where
 abbrev pub left : Planner → List ℕ → List ℕ → Handed → Left
 left p words buffer answer = record { planner = p; words = words; buffer = buffer; answer = answer }
 
-unfoldable pub leaves : Planner → List ℕ → List ℕ → Answer → Left
+unfoldable pub leaves : Planner → List ℕ → List ℕ → Result Done Refusal → Left
 leaves p words buffer answer = left p words buffer (answer_of answer)
 
 -- everything as it was, and a refusal's number

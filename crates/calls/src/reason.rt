@@ -1,110 +1,101 @@
-// The first reason that refuses a call on a sound table, by the numbers that are held: 0 where there is none.
-ghost use Rattle.std.specs.Prelude.{◌≡◌, ◌||◌, ◌≤◌, eqb, length};
-ghost use Rattle.rules.specs.Station.{grains, most_cores, row_count};
+// The first reason that refuses a call on a sound table, by the numbers that are held.
+ghost use Rattle.std.specs.Prelude.{◌≡◌, ◌≤◌};
+ghost use Rattle.rules.specs.Station.{grains, most_cores};
+ghost use Rattle.rules.specs.Numbers.{verdict};
 ghost use Rattle.rules.specs.Calls.{refused, open_refusals};
 ghost use Rattle.calls.specs.Reasons.{declare_number, task_number, among, due_number, advance_number};
 
 use rules::{
-    GRAINS, LAST_TICK, LONGEST_PERIOD, MOST_CORES, ROWS, SEGMENT_WORDS, SHARE_WORDS, SLOTS, State,
-    Task,
+    GRAINS, LAST_TICK, LONGEST_PERIOD, MOST_CORES, ROWS, Refusal, SEGMENT_WORDS, SHARE_WORDS,
+    SLOTS, State, Task,
 };
 use slots::task::rate_of;
 use slots::word::in_use;
 
 // Of an open, by the number of words lent and the cores; it asks for no table.
-#[tactic(auto, unfolding(rules::specs::Calls::refused, rules::specs::Calls::open_refusals))]
-pub fn open_reason(words: usize, cores: u64) -> u64
-    ensures { result ≡ refused (open_refusals words cores) }
+#[tactic(auto, unfolding(rules::specs::Calls::refused, rules::specs::Calls::open_refusals, rules::specs::Numbers::verdict, rules::specs::Numbers::number_of))]
+pub fn open_reason(words: usize, cores: u64) -> Result<(), Refusal>
+    ensures { verdict result ≡ refused (open_refusals words cores) }
 {
     if words < SHARE_WORDS {
-        return 1;
+        return Err(Refusal::NotSound);
     }
     if cores < 1 || MOST_CORES < cores {
-        return 2;
+        return Err(Refusal::Cores);
     }
-    0
+    Ok(())
 }
 
 // Of a declare. The load is the rates of all tasks together.
-#[tactic(auto, unfolding(crate::specs::Reasons::declare_number))]
-pub fn declare_reason(state: State, load: u64, period: u64, cost: u64) -> u64
+#[tactic(auto, unfolding(crate::specs::Reasons::declare_number, rules::specs::Numbers::verdict, rules::specs::Numbers::number_of))]
+pub fn declare_reason(state: State, load: u64, period: u64, cost: u64) -> Result<(), Refusal>
     requires cores_le_most_cores { state.cores ≤ most_cores }
     requires load_bound { load ≤ grains most_cores }
-    ensures { result ≡ declare_number state.cores state.used load period cost }
+    ensures { verdict result ≡ declare_number state.cores state.used load period cost }
 {
     if period < 1 || LONGEST_PERIOD < period {
-        return 3;
+        return Err(Refusal::Period);
     }
     if cost == 0 || GRAINS * period < cost {
-        return 4;
+        return Err(Refusal::Cost);
     }
     if in_use(state.used) == SLOTS as u32 {
-        return 5;
+        return Err(Refusal::SlotsFull);
     }
     if GRAINS * state.cores < load + rate_of(period, cost) {
-        return 6;
+        return Err(Refusal::RatesFull);
     }
-    0
+    Ok(())
 }
 
 // Of a call on a slot from 0 to 63, by its task: a withdraw's, and the first two of a release.
-pub fn task_reason(task: Task) -> u64
-    ensures { result ≡ task_number task.period task.deadline }
+#[tactic(auto, unfolding(crate::specs::Reasons::task_number, rules::specs::Numbers::verdict, rules::specs::Numbers::number_of))]
+pub fn task_reason(task: Task) -> Result<(), Refusal>
+    ensures { verdict result ≡ task_number task.period task.deadline }
 {
     if task.period == 0 {
-        return 7;
+        return Err(Refusal::Slot);
     }
     if 0 < task.deadline {
-        return 8;
+        return Err(Refusal::JobPending);
     }
-    0
-}
-
-fn is_end(found: bool, end: u64, d: u64) -> bool
-    ensures { result ≡ found || eqb d end }
-{
-    if found { true } else { d == end }
+    Ok(())
 }
 
 // Whether d is one of 64 boundaries.
-fn is_among(ends: &[u64], d: u64) -> bool
-    requires { length ends.now ≡ row_count }
+fn is_among(ends: &[u64; ROWS], d: u64) -> bool
     ensures { result ≡ among d ends.now }
 {
-    let mut found = false;
-    for k in 0..ROWS {
-        found = is_end(found, ends[k], d);
-    }
-    found
+    ends.contains(&d)
 }
 
 // Of a release whose job is due at d.
-#[tactic(auto, unfolding(crate::specs::Reasons::due_number))]
-pub fn due_reason(d: u64, count: u64, ends: &[u64]) -> u64
-    requires { length ends.now ≡ row_count }
-    ensures { result ≡ due_number d count ends.now }
+#[tactic(auto, unfolding(crate::specs::Reasons::due_number, rules::specs::Numbers::verdict, rules::specs::Numbers::number_of))]
+pub fn due_reason(d: u64, count: u64, ends: &[u64; ROWS]) -> Result<(), Refusal>
+    ensures { verdict result ≡ due_number d count ends.now }
 {
     if LAST_TICK < d {
-        return 10;
+        return Err(Refusal::BeyondLastTick);
     }
     if count == ROWS as u64 && !is_among(ends, d) {
-        return 9;
+        return Err(Refusal::RowsFull);
     }
-    0
+    Ok(())
 }
 
 // Of an advance. The room is the number of words of the segment buffer.
-pub fn advance_reason(clock: u64, tick: u64, room: usize) -> u64
-    ensures { result ≡ advance_number clock tick room }
+#[tactic(auto, unfolding(crate::specs::Reasons::advance_number, rules::specs::Numbers::verdict, rules::specs::Numbers::number_of))]
+pub fn advance_reason(clock: u64, tick: u64, room: usize) -> Result<(), Refusal>
+    ensures { verdict result ≡ advance_number clock tick room }
 {
     if tick < clock {
-        return 11;
+        return Err(Refusal::BeforeClock);
     }
     if LAST_TICK < tick {
-        return 10;
+        return Err(Refusal::BeyondLastTick);
     }
     if room < SEGMENT_WORDS {
-        return 12;
+        return Err(Refusal::SegmentsShort);
     }
-    0
+    Ok(())
 }

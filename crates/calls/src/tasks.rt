@@ -1,24 +1,26 @@
-ghost use Rattle.std.specs.Prelude.{◌≡◌, [], length};
+ghost use Rattle.std.specs.Prelude.{◌≡◌, []};
 ghost use Rattle.rules.specs.Calls.{declare, withdraw};
-ghost use Rattle.rules.specs.Held.{list_words, planner};
+ghost use Rattle.rules.specs.Held.{planner};
 ghost use Rattle.calls.specs.Called.{leaves, called};
 
-use crate::number::{declare_number, withdraw_number};
-use crate::{Answer, Moved, refuse};
-use rules::{State, Task};
+use crate::Done;
+use crate::may::{may_declare, may_withdraw};
+use rules::{LIST_WORDS, Refusal, State, Task};
 use slots::task::{put_task, rate_of};
 use slots::word::{bit_of, lowest_free};
 
 // Declare: the lowest free slot. Value: the slot.
-pub fn declare(state: State, lists: &mut [u64], shares: &[u32], period: u64, cost: u64) -> Moved
-    requires { length lists.old ≡ list_words }
-    ensures { leaves (planner result.state lists.new) shares.now [] result.answer
-        ≡ called (planner state lists.old) shares.now [] (declare period cost) }
+pub fn declare(
+    state: &mut State,
+    lists: &mut [u64; LIST_WORDS],
+    shares: &[u32],
+    period: u64,
+    cost: u64,
+) -> Result<Done, Refusal>
+    ensures { leaves (planner state.new lists.new) shares.now [] result
+        ≡ called (planner state.old lists.old) shares.now [] (declare period cost) }
 {
-    let number = declare_number(state, lists, shares, period, cost);
-    if number != 0 {
-        return refuse(state, number);
-    }
+    may_declare(*state, lists, shares, period, cost)?;
     let slot = lowest_free(state.used);
     let task = Task {
         period,
@@ -27,24 +29,24 @@ pub fn declare(state: State, lists: &mut [u64], shares: &[u32], period: u64, cos
         deadline: 0,
     };
     put_task(lists, slot, task);
-    let mut next = state;
-    next.used = state.used + bit_of(slot);
-    Moved {
-        state: next,
-        answer: Answer::Done(slot as u64, 0),
-    }
+    state.used += bit_of(slot);
+    Ok(Done {
+        value: slot as u64,
+        count: 0,
+    })
 }
 
 // Withdraw: the slot is free again and may be used again at once. Value 0.
-pub fn withdraw(state: State, lists: &mut [u64], shares: &[u32], slot: u64) -> Moved
-    requires { length lists.old ≡ list_words }
-    ensures { leaves (planner result.state lists.new) shares.now [] result.answer
-        ≡ called (planner state lists.old) shares.now [] (withdraw slot) }
+pub fn withdraw(
+    state: &mut State,
+    lists: &mut [u64; LIST_WORDS],
+    shares: &[u32],
+    slot: u64,
+) -> Result<Done, Refusal>
+    ensures { leaves (planner state.new lists.new) shares.now [] result
+        ≡ called (planner state.old lists.old) shares.now [] (withdraw slot) }
 {
-    let number = withdraw_number(state, lists, shares, slot);
-    if number != 0 {
-        return refuse(state, number);
-    }
+    may_withdraw(*state, lists, shares, slot)?;
     let at = slot as usize;
     let free = Task {
         period: 0,
@@ -53,10 +55,6 @@ pub fn withdraw(state: State, lists: &mut [u64], shares: &[u32], slot: u64) -> M
         deadline: 0,
     };
     put_task(lists, at, free);
-    let mut next = state;
-    next.used = state.used - bit_of(at);
-    Moved {
-        state: next,
-        answer: Answer::Done(0, 0),
-    }
+    state.used -= bit_of(at);
+    Ok(Done { value: 0, count: 0 })
 }

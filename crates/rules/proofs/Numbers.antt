@@ -24,12 +24,12 @@ number_some r =
     ]
 
 -- the reason of a number
-abbrev numbered : ℕ → Refusal
+abbrev pub numbered : ℕ → Refusal
 numbered n =
     cond (eqb n 1) NotSound (cond (eqb n 2) Cores (cond (eqb n 3) Period (cond (eqb n 4) Cost (cond (eqb n 5) SlotsFull (cond (eqb n 6) RatesFull (cond (eqb n 7) Slot
     (cond (eqb n 8) JobPending (cond (eqb n 9) RowsFull (cond (eqb n 10) BeyondLastTick (cond (eqb n 11) BeforeClock (cond (eqb n 12) SegmentsShort Core)))))))))))
 
-numbered_back : (r : Refusal) → numbered (number_of r) ≡ r
+pub numbered_back : (r : Refusal) → numbered (number_of r) ≡ r
 unfolding number_of
 numbered_back r =
     elim r as (λ v. numbered (number_of v) ≡ v) [

@@ -1,16 +1,23 @@
--- `is_among` looks at the boundaries one by one: what is found so far or among those left is what is found among all.
--- A turn is one step of the definition.
-use Rattle.calls.proofs.Among.{among_more, among-all}
-use native.Mathlib.Omega.{arith}
-use borrow.Author.Rules.{rules}
+-- `is_among` asks the library whether some boundary equals d.
+use mathlib.Core.Path.{◌≡◌, refl, sym, ◌∙◌}
+use mathlib.Core.Bool.{Bool}
+use mathlib.Core.List.{List, [], ◌∷◌}
+use Prim.Native.Nat.{ℕ}
+use lib.Dec.{eqb}
+use borrow.Author.Tests.{eq-eqb, ne_eqb}
+use Rattle.std.specs.List.{list_any}
+use Rattle.rules.proofs.Floor.{by_eq}
+use Rattle.calls.specs.Reasons.{among}
 use Rattle.calls.proofs.reason.is_among.Goals as goal
 
-pub loop-k-preserved : goal.loop-k-preserved
-loop-k-preserved c =
-    let at = c.args in
-    (search rules, rw c.is_end-found.ensures (among_more at.d c.loop-k.k at.ends.now c.loop-k.found (omega arith) c.loop-k.invariant.1))
+eqb_turned : (y d : ℕ) → eqb y d ≡ eqb d y
+eqb_turned y d = by_eq y d (λ e. rw e) (λ ne. rw (ne_eqb y d ne, ne_eqb d y (λ e. ne (sym e))))
+
+-- the library's test of each boundary
+any_among : (f : ℕ → Bool) (d : ℕ) (es : List ℕ) → ((y : ℕ) → f y ≡ eqb d y) → list_any f es ≡ among d es
+unfolding among
+any_among f d [] same = refl
+any_among f d (e ∷ es) same = rw (same e, any_among f d es same)
 
 pub returns : goal.returns
-returns c =
-    let at = c.args in
-    among-all at.d c.loop-k.k at.ends.now c.loop-k.found (omega arith) c.loop-k.invariant.1
+returns c = c.contains.ensures.value ∙ any_among _ c.args.d c.args.ends.now (λ y. eqb_turned y c.args.d)

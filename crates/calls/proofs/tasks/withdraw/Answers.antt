@@ -1,51 +1,52 @@
--- `withdraw` leaves what the rules say: everything as it was with a reason's number, or the slot free.
--- That the number is 0 says that the slot is in use, so its bit is set.
+-- `withdraw` leaves what the rules say: everything as it was with the reason, or the slot free.
+-- That there is no reason says that the slot is in use, so its bit is set.
 use mathlib.Core.Path.{◌≡◌, sym, ◌∙◌}
 use mathlib.Core.List.{[]}
 use native.Mathlib.Omega.{arith}
-use Rattle.rules.specs.Calls.{withdraw}
+use Rattle.std.proofs.Common.{rules, Err}
+use Rattle.rules.specs.Numbers.{verdict}
 use Rattle.rules.specs.Held.{planner}
-use Rattle.calls.specs.Called.{number_for}
-use Rattle.calls.proofs.Called.{number-refused}
+use Rattle.rules.specs.Calls.{withdraw}
 use Rattle.rules.specs.Station.{free}
+use Rattle.calls.proofs.Called.{err-left}
 use Rattle.calls.proofs.Slotted.{withdrawn-inside, withdrawn_bit, withdrawn-left}
 use Rattle.calls.proofs.tasks.withdraw.Goals as goal
-use Rattle.calls.proofs.tasks.withdraw.Goals.{Else-number-ne0}
 
-pub returns-then-number-ne0 : goal.returns-then-number-ne0
-returns-then-number-ne0 c =
+pub returns-in_err-may_withdraw : goal.returns-in_err-may_withdraw
+unfolding verdict
+returns-in_err-may_withdraw c =
     let at = c.args in
-    let number = c.withdraw_number-number in
-    let p = planner at.state at.lists.now in
-    c.refuse.ensures at.lists.now at.shares.now [] ∙ number-refused p at.shares.now (withdraw at.slot) (omega arith) number.result number.ensures c.if-number-ne0.true []
-
--- nothing refuses it
-none : (e : Else-number-ne0) → let at = e.args in number_for (planner at.state at.lists.now) at.shares.now (withdraw at.slot) ≡ 0
-none e = sym e.withdraw_number-number.ensures ∙ e.if-number-ne0.false
+    let same : c.from_residual.result ≡ Err c.in_err-may_withdraw.field-0.0 = search rules in
+    let number = rw c.in_err-may_withdraw.was at c.may_withdraw.ensures in
+    rw same (err-left (planner at.state.now at.lists.now) at.shares.now (withdraw at.slot) (omega arith) c.in_err-may_withdraw.field-0.0 number [])
 
 pub put_task-requires : goal.put_task-requires
+unfolding verdict
 put_task-requires c =
     let at = c.args in
     record {
       lists_len = omega arith;
-      slot_lt_slot_count = withdrawn-inside (planner at.state at.lists.now) at.shares.now (omega arith) at.slot (none (goal.at.put_task-requires c).Else-number-ne0);
+      slot_lt_slot_count = withdrawn-inside (planner at.state.now at.lists.now) at.shares.now (omega arith) at.slot (rw c.in_ok-may_withdraw.was at (sym c.may_withdraw.ensures));
     }
 
 pub bit_of-requires : goal.bit_of-requires
+unfolding verdict
 bit_of-requires c =
     let at = c.args in
-    withdrawn-inside (planner at.state at.lists.now) at.shares.now (omega arith) at.slot (none (goal.at.bit_of-requires c).Else-number-ne0)
+    withdrawn-inside (planner at.state.now at.lists.now) at.shares.now (omega arith) at.slot (rw c.in_ok-may_withdraw.was at (sym c.may_withdraw.ensures))
 
-pub overflow_sub-next : goal.overflow_sub-next
-overflow_sub-next c =
+pub overflow_sub-state : goal.overflow_sub-state
+unfolding verdict
+overflow_sub-state c =
     let at = c.args in
-    omega (arith, c.bit_of.ensures, withdrawn_bit (planner at.state at.lists.now) at.shares.now (omega arith) at.slot (none (goal.at.overflow_sub-next c).Else-number-ne0))
+    omega (arith, c.bit_of.ensures, withdrawn_bit (planner at.state.now at.lists.now) at.shares.now (omega arith) at.slot (rw c.in_ok-may_withdraw.was at (sym c.may_withdraw.ensures)))
 
 pub returns : goal.returns
-unfolding free
+unfolding free verdict
 returns c =
     let at = c.args in
-    let p = planner at.state at.lists.now in
+    let p = planner at.state.now at.lists.now in
     let put = c.put_task in
-    let bit = withdrawn_bit p at.shares.now (omega arith) at.slot (none (goal.at.returns c).Else-number-ne0) in
-    withdrawn-left p at.shares.now (omega arith) at.slot (none (goal.at.returns c).Else-number-ne0) _ (put.auto.lists ∙ omega arith) put.ensures (omega (arith, c.bit_of.ensures))
+    let z = rw c.in_ok-may_withdraw.was at (sym c.may_withdraw.ensures) in
+    let bit = withdrawn_bit p at.shares.now (omega arith) at.slot z in
+    withdrawn-left p at.shares.now (omega arith) at.slot z _ (put.auto.lists ∙ omega arith) put.ensures (omega (arith, c.bit_of.ensures))
