@@ -1,10 +1,10 @@
-ghost use Rattle.std.specs.Prelude.{◌≡◌, cond, ◌≤◌, ◌<◌, eqb, length, get_or, set};
+ghost use Rattle.std.specs.Prelude.{◌≡◌, cond, ◌≤◌, ◌<◌, eqb, get_or, set};
 ghost use Rattle.rules.specs.Station.{slot_count, longest_period, grains, rate_of, rates, free, with_deadline};
 ghost use Rattle.rules.specs.Advance.{ended};
-ghost use Rattle.rules.specs.Held.{list_words, ends_of, tasks_of};
+ghost use Rattle.rules.specs.Held.{tasks_of};
 ghost use Rattle.slots.specs.Lists.{Tasked};
 
-use rules::{COST, DEADLINE, PERIOD, RATE, SLOTS, TASKS_FROM, Task, WORDS_PER_TASK};
+use rules::{COST, DEADLINE, LIST_WORDS, PERIOD, RATE, SLOTS, TASKS_FROM, Task, WORDS_PER_TASK};
 
 // "Its rate is cost divided by period, rounded up".
 pub fn rate_of(period: u64, cost: u64) -> u64
@@ -18,9 +18,8 @@ pub fn rate_of(period: u64, cost: u64) -> u64
 }
 
 // The task in a slot.
-pub fn task_in(lists: &[u64], slot: usize) -> Task
-    requires lists_len { length lists.now ≡ list_words }
-    requires slot_lt_slot_count { slot < slot_count }
+pub fn task_in(lists: &[u64; LIST_WORDS], slot: usize) -> Task
+    requires { slot < slot_count }
     ensures { result ≡ get_or (tasks_of lists.now) slot free }
 {
     let at = TASKS_FROM + WORDS_PER_TASK * slot;
@@ -33,9 +32,8 @@ pub fn task_in(lists: &[u64], slot: usize) -> Task
 }
 
 // A task is stored in a slot. No other word is touched.
-pub fn put_task(lists: &mut [u64], slot: usize, task: Task)
-    requires lists_len { length lists.old ≡ list_words }
-    requires slot_lt_slot_count { slot < slot_count }
+pub fn put_task(lists: &mut [u64; LIST_WORDS], slot: usize, task: Task)
+    requires { slot < slot_count }
     ensures { Tasked lists.old (set (tasks_of lists.old) slot task) lists.new }
 {
     let at = TASKS_FROM + WORDS_PER_TASK * slot;
@@ -46,9 +44,8 @@ pub fn put_task(lists: &mut [u64], slot: usize, task: Task)
 }
 
 // A slot's task gets another deadline.
-pub fn put_deadline(lists: &mut [u64], slot: usize, deadline: u64)
-    requires lists_len { length lists.old ≡ list_words }
-    requires slot_lt_slot_count { slot < slot_count }
+pub fn put_deadline(lists: &mut [u64; LIST_WORDS], slot: usize, deadline: u64)
+    requires { slot < slot_count }
     ensures { Tasked lists.old
         (set (tasks_of lists.old) slot
         (with_deadline (get_or (tasks_of lists.old) slot free) deadline))
@@ -58,15 +55,13 @@ pub fn put_deadline(lists: &mut [u64], slot: usize, deadline: u64)
 }
 
 // The rates of all tasks together.
-pub fn load(lists: &[u64]) -> u64
-    requires lists_len { length lists.now ≡ list_words }
-    requires lists_bound { rates (tasks_of lists.now) ≤ 18446744073709551615 }
+pub fn load(lists: &[u64; LIST_WORDS]) -> u64
+    requires { rates (tasks_of lists.now) ≤ 18446744073709551615 }
     ensures { result ≡ rates (tasks_of lists.now) }
 {
-    let mut total: u64 = 0;
-    for i in 0..SLOTS {
-        let task = task_in(lists, i);
-        total += task.rate;
+    let mut total = 0;
+    for slot in 0..SLOTS {
+        total += task_in(lists, slot).rate;
     }
     total
 }
@@ -78,12 +73,11 @@ fn kept(deadline: u64, d: u64) -> u64
 }
 
 // "At a boundary the jobs with that deadline end".
-pub fn end_jobs(lists: &mut [u64], d: u64)
-    requires { length lists.old ≡ list_words }
+pub fn end_jobs(lists: &mut [u64; LIST_WORDS], d: u64)
     ensures { Tasked lists.old (ended d (tasks_of lists.old)) lists.new }
 {
-    for i in 0..SLOTS {
-        let task = task_in(lists, i);
-        put_deadline(lists, i, kept(task.deadline, d));
+    for slot in 0..SLOTS {
+        let task = task_in(lists, slot);
+        put_deadline(lists, slot, kept(task.deadline, d));
     }
 }

@@ -1,13 +1,12 @@
 // Whether each task is sound by itself. Any numbers may come: a number is computed with once it is in range.
-ghost use Rattle.std.specs.Prelude.{◌≡◌, true, ◌&&◌, ◌-◌, ◌*◌, ◌%◌, ◌≤◌, leb, ltb, eqb, length};
-ghost use Rattle.rules.specs.Station.{last_tick, longest_period, slot_count, grains, in_use};
+ghost use Rattle.std.specs.Prelude.{◌≡◌, true, ◌&&◌, ◌-◌, ◌*◌, ◌%◌, ◌≤◌, leb, ltb, eqb, cond};
+ghost use Rattle.rules.specs.Station.{last_tick, longest_period, grains, in_use};
 ghost use Rattle.rules.specs.Sound.{each_task, lawful_test, in_time_test};
-ghost use Rattle.rules.specs.Held.{flag, used_of, list_words, tasks_of};
+ghost use Rattle.rules.specs.Held.{flag, used_of, tasks_of};
 ghost use Rattle.slots.specs.Tests.{free_test, task_test, due_from, dues_of, rates_of};
 
 use crate::task::task_in;
-use rows::word::narrow;
-use rules::{GRAINS, LAST_TICK, LONGEST_PERIOD, SLOTS, State, Task};
+use rules::{GRAINS, LAST_TICK, LIST_WORDS, LONGEST_PERIOD, SLOTS, State, Task};
 
 // "Its rate is cost divided by period, rounded up", by a product and no division: the allowance reaches the cost, and would not
 // with a rate of one less.
@@ -70,41 +69,45 @@ fn one_task(used: u64, task: Task, clock: u64, start: u64) -> bool
     lawful(task) && in_time(task, clock, start)
 }
 
-// From a to b, or 0 where b is not after a.
-pub fn since(a: u64, b: u64) -> u64
-    ensures { result ≡ b - a }
-{
-    if a < b { b - a } else { 0 }
-}
-
 // A deadline in ticks after the plan start, or 0 where no job is pending: the low 32 bits, which a sound job's deadline fits.
+#[tactic(auto, unfolding(crate::specs::Tests::due_from))]
 fn due_of(deadline: u64, start: u64) -> u32
     ensures { result ≡ due_from start deadline }
 {
-    narrow(since(start, deadline) % 4294967296)
+    (deadline.saturating_sub(start) % 4294967296) as u32
 }
 
-// All slots: the word of the slots in use, and each task by itself. The same pass writes the deadlines and the rates side by side;
-// it ends at the first slot that is not sound.
-pub fn tasks_sound(state: State, lists: &[u64], due: &mut [u32], rates: &mut [u32]) -> bool
-    requires start_le_last_tick { state.start ≤ last_tick }
-    requires lists_len { length lists.now ≡ list_words }
-    requires due_len { length due.old ≡ slot_count }
-    requires rates_len { length rates.old ≡ slot_count }
-    ensures value { result ≡ eqb state.used (used_of (tasks_of lists.now))
-        && each_task (task_test state.clock state.start) (tasks_of lists.now) }
-    ensures due_after { result ≡ true → due.new ≡ dues_of state.start (tasks_of lists.now) }
-    ensures rates_after { result ≡ true → rates.new ≡ rates_of (tasks_of lists.now) }
+// Deadlines in ticks after the plan start, or 0 where no job is pending, and rates, side by side.
+#[derive(Clone, Copy)]
+pub struct Dues {
+    pub due: [u32; SLOTS],
+    pub rates: [u32; SLOTS],
+}
+
+// All slots: the word of the slots in use, and each task by itself. The same pass writes the deadlines and the rates; it ends at the
+// first slot that is not sound.
+pub fn tasks_sound(state: State, lists: &[u64; LIST_WORDS]) -> Option<Dues>
+    requires { state.start ≤ last_tick }
+    ensures { result ≡ cond
+        (eqb state.used (used_of (tasks_of lists.now))
+        && each_task (task_test state.clock state.start) (tasks_of lists.now))
+        (Some (record {
+          due = dues_of state.start (tasks_of lists.now);
+          rates = rates_of (tasks_of lists.now);
+        }))
+        None }
 {
+    let mut due = [0; SLOTS];
+    let mut rates = [0; SLOTS];
     let mut left = state.used;
-    for i in 0..SLOTS {
-        let task = task_in(lists, i);
+    for slot in 0..SLOTS {
+        let task = task_in(lists, slot);
         if !one_task(left, task, state.clock, state.start) {
-            return false;
+            return None;
         }
-        left = left / 2;
-        due[i] = due_of(task.deadline, state.start);
-        rates[i] = narrow(task.rate);
+        left /= 2;
+        due[slot] = due_of(task.deadline, state.start);
+        rates[slot] = task.rate as u32;
     }
-    left == 0
+    (left == 0).then_some(Dues { due, rates })
 }

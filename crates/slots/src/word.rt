@@ -6,14 +6,14 @@ ghost use Rattle.rules.specs.Station.{slot_count};
 pub fn lowest_free(used: u64) -> usize
     ensures { result ≡ count_trailing_zeros 64 (18446744073709551615 - used) }
 {
-    u64::trailing_zeros(!used) as usize
+    (!used).trailing_zeros() as usize
 }
 
 // How many slots are in use: by count of ones.
 pub fn in_use(used: u64) -> u32
     ensures { result ≡ ones used }
 {
-    u64::count_ones(used)
+    used.count_ones()
 }
 
 // A slot's bit in the word of slots in use.

@@ -14,20 +14,20 @@ use Rattle.rules.proofs.Tasks.{ended_cases, ended-length}
 use Rattle.rows.proofs.Moves.{mixed_none, mixed_more, mixed_ahead, mixed_all}
 use Rattle.slots.proofs.task.end_jobs.Goals as goal
 
-pub loop-i-init : goal.loop-i-init
-loop-i-init c = record { within = omega arith; long = omega arith; tasks = mixed_none _ _; ends = refl }
+pub loop-slot-init : goal.loop-slot-init
+loop-slot-init c = record { within = omega arith; tasks = mixed_none _ _; ends = refl }
 
-pub loop-i-preserved : goal.loop-i-preserved
+pub loop-slot-preserved : goal.loop-slot-preserved
 unfolding with_deadline
-loop-i-preserved c =
+loop-slot-preserved c =
     let at = c.args in
-    let i = c.loop-i.i in
+    let i = c.loop-slot.slot in
     let d = at.d in
-    let ls = c.loop-i.lists in
+    let ls = c.loop-slot.lists in
     let ks = tasks_of at.lists.now in
     let slots = slots_length at.lists.now in
     let same : length (ended d ks) ≡ 64 = omega (arith, ended-length d ks) in
-    let inv = c.loop-i.invariant in
+    let inv = c.loop-slot.invariant in
     let j = get_or ks i free in
     let put = c.put_deadline in
     let old : get_or (tasks_of ls) i free ≡ j = mixed_ahead free inv.tasks i (omega arith) (omega arith) in
@@ -36,7 +36,6 @@ loop-i-preserved c =
     ended_cases (λ t. with_deadline j (cond (eqb j.deadline d) 0 j.deadline) ≡ t) d ks i (λ q. rw eq-eqb) (λ ne. rw ne_eqb) in
     record {
       within = omega arith;
-      long = put.auto.lists ∙ inv.long;
       tasks = rw (put.ensures.tasks, old, c.kept.ensures, word) (mixed_more free inv.tasks _ (omega arith) (omega arith) new);
       ends = put.ensures.ends ∙ inv.ends;
     }
@@ -46,6 +45,6 @@ returns c =
     let at = c.args in
     let slots = slots_length at.lists.now in
     record {
-      tasks = mixed_all c.loop-i.invariant.tasks (omega (arith, ended-length at.d (tasks_of at.lists.now))) (omega arith);
-      ends = c.loop-i.invariant.ends;
+      tasks = mixed_all c.loop-slot.invariant.tasks (omega (arith, ended-length at.d (tasks_of at.lists.now))) (omega arith);
+      ends = c.loop-slot.invariant.ends;
     }

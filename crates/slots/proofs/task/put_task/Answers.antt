@@ -8,15 +8,6 @@ use Rattle.rules.specs.Held.{words_per_task, task_in, task_words, tasks_from, li
 use Rattle.rules.proofs.Held.{stored, slots_length, task_stored, task_stored-on, ends-stored}
 use Rattle.slots.proofs.task.put_task.Goals as goal
 
-pub bounds-lists-at-2 : goal.bounds-lists-at-2
-bounds-lists-at-2 c = simp length-set (omega arith)
-
-pub bounds-lists-at-3 : goal.bounds-lists-at-3
-bounds-lists-at-3 c = simp length-set (omega arith)
-
-pub bounds-lists-at-4 : goal.bounds-lists-at-4
-bounds-lists-at-4 c = simp length-set (omega arith)
-
 pub returns : goal.returns
 unfolding stored task_in task_words
 returns c =

@@ -1,12 +1,8 @@
 -- `tasks_sound` goes through the slots with what is left of the word of the slots in use, whose lowest bit is the slot's.
 -- The laws of Slots.antt say what one slot does to that, and what is known after the last.
-use Prim.Native.Nat.{◌-◌}
 use Rattle.rules.specs.Held.{tasks_of}
 use Rattle.slots.proofs.Slots.{Going}
 use Rattle.slots.proofs.test.tasks_sound.Given as goal
 
-abbrev pub invariant-loop-i : goal.invariant-loop-i
-invariant-loop-i l = Going l.state.used l.state.clock l.state.start (tasks_of l.lists) l.initial.due l.initial.rates l.due l.rates l.left l.i
-
-abbrev pub decreases-loop-i : goal.decreases-loop-i
-decreases-loop-i l = 64 - l.i
+abbrev pub invariant-loop-slot : goal.invariant-loop-slot
+invariant-loop-slot l = Going l.state.used l.state.clock l.state.start (tasks_of l.lists) l.initial.due l.initial.rates l.due l.rates l.left l.slot
