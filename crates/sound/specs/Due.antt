@@ -5,23 +5,15 @@ use Rattle.rules.specs.Sound.{every, each_slice}
 use Rattle.rules.specs.Words.{rows_of, slices_of}
 use Rattle.rows.specs.Row.{shares_fit, owed_in, hits_in}
 
--- deadlines and rates side by side, one of each for each slot
-pub record Listed (due rates : List ℕ) : Type 0 where
-  pub due_long : length due ≡ slot_count
-  pub rates-long : length rates ≡ slot_count
-
--- and beside them the share table, where the rates together are small
-pub record Beside (due rates words : List ℕ) : Type 0 where
-  pub listed : Listed due rates
+-- what is asked of a row has what it needs: rates that together are small, and the share table
+pub record Beside (rates words : List ℕ) : Type 0 where
   pub light : sum rates ≤ 4294967295
   pub long : share_words ≤ length words
 
--- what is asked of the slices has what it needs: cores and boundaries in range
-pub record Planning (cores count : ℕ) (due rates ends words : List ℕ) : Type 0 where
+-- what is asked of the slices has what it needs: cores and boundaries in range, and the share table
+pub record Planning (cores count : ℕ) (words : List ℕ) : Type 0 where
   pub few-cores : cores ≤ most_cores
   pub few-rows : count ≤ row_count
-  pub listed : Listed due rates
-  pub bounds : length ends ≡ row_count
   pub long : share_words ≤ length words
 
 -- a slice from lo to `end` that ends within the longest period after the plan start and is no longer than it. In a sound table
