@@ -1,5 +1,5 @@
 -- What the check asks of all slices, beside deadlines counted from the plan start and rates, 64 numbers each.
-use Rattle.std.specs.Prelude.{◌≡◌, Bool, cond, ◌&&◌, ◌||◌, List, [], ◌∷◌, ℕ, ◌+◌, ◌-◌, ◌*◌, ◌≤◌, leb, ltb, eqb, length, take, drop}
+use Rattle.std.specs.Prelude.{Bool, cond, ◌&&◌, ◌||◌, List, [], ◌∷◌, ℕ, ◌+◌, ◌-◌, ◌*◌, ◌≤◌, leb, ltb, eqb, length, take, drop}
 use Rattle.rules.specs.Station.{Slice, grains, last_tick, longest_period, most_cores, slot_count, row_count, share_words, sum}
 use Rattle.rules.specs.Sound.{every, each_slice}
 use Rattle.rules.specs.Words.{rows_of, slices_of}

@@ -2,6 +2,7 @@ ghost use Rattle.std.specs.Prelude.{◌≡◌, ◌&&◌, ◌+◌, ◌≤◌, ◌
 ghost use Rattle.rules.specs.Station.{longest_period, slot_count, row_count, sum};
 ghost use Rattle.rules.specs.Sound.{each_slice};
 ghost use Rattle.rules.specs.Words.{rows_of, row_at, slices_of};
+ghost use Rattle.std.specs.Option.{is_some, unwrap_or};
 ghost use Rattle.sound.specs.Due.{Beside, slice_check, slice_hits, all_hits, slice_at, row_test};
 
 use rows::look::RowFacts;
@@ -9,7 +10,8 @@ use rules::{GRAINS, LONGEST_PERIOD, ROWS};
 use slots::test::Dues;
 use table::row::row_look;
 
-// Whether slices are sound, and how many jobs are due at their ends. The count holds where `ok` is false too, so this is no Option.
+// Whether slices are sound, and how many jobs are due at their ends. That number is promised where `ok` is false too, so both are handed
+// back.
 #[derive(Clone, Copy)]
 pub struct SliceFacts {
     pub ok: bool,
@@ -29,9 +31,10 @@ pub struct Span {
 fn row_fits(row: RowFacts, long: u64) -> bool
     requires long_le_longest_period { long ≤ longest_period }
     requires owed_bound { row.owed ≤ 4294967295 }
-    ensures { result ≡ row_test row.fits row.sum long row.owed row.hits }
+    ensures { result ≡ row_test (is_some row.sum) (unwrap_or row.sum 0) long row.owed row.hits }
 {
-    row.fits && row.sum <= long * row.owed && 0 < row.hits
+    let most = long * row.owed;
+    row.sum.is_some_and(|sum| sum <= most) && 0 < row.hits
 }
 
 // Row k and the time of its slice. Any times may come: those that no sound table has are answered before anything is computed.
@@ -100,5 +103,5 @@ pub fn ends_zero(ends: &[u64; ROWS], count: usize) -> bool
     requires { count ≤ row_count }
     ensures { result ≡ eqb (sum (drop count ends.now)) 0 }
 {
-    ends[count..].iter().all(|end| *end == 0)
+    ends[count..].iter().all(|&end| end == 0)
 }

@@ -28,8 +28,7 @@ fn load_sound(all: DueFacts, state: State) -> bool
     ensures { result ≡ leb all.owed (grains state.cores)
         && (ltb all.hits slot_count || eqb state.start state.clock) }
 {
-    all.owed <= GRAINS * state.cores
-        && (all.hits < SLOTS as u64 || state.start == state.clock)
+    all.owed <= GRAINS * state.cores && (all.hits < SLOTS as u64 || state.start == state.clock)
 }
 
 // The clauses about all slices, once cores and count are in range.

@@ -21,9 +21,11 @@ loop-due-preserved c =
     let inv = c.loop-due.invariant in
     let due = c.in-Some.ensures.steps.0 in
     let rates = c.in-Some.ensures.steps.1 in
-    let owed : owed_in at.end (iter_rest (zip_first c.loop-due.due-iterator)) (iter_rest (zip_second c.loop-due.due-iterator))
-        ≡ c.rate_due.result + owed_in at.end (iter_rest (zip_first c.next.new.self)) (iter_rest (zip_second c.next.new.self)) = rw (due, rates) (rw (sym c.rate_due.ensures.value)) in
-    let hits : hits_in at.end (iter_rest (zip_first c.loop-due.due-iterator)) ≡ c.hit-hits.result + hits_in at.end (iter_rest (zip_first c.next.new.self)) = rw due (rw (sym c.hit-hits.ensures.value)) in
+    let later = owed_in at.end (iter_rest (zip_first c.next.new.self)) (iter_rest (zip_second c.next.new.self)) in
+    let after = hits_in at.end (iter_rest (zip_first c.next.new.self)) in
+    let owed : owed_in at.end (iter_rest (zip_first c.loop-due.due-iterator)) (iter_rest (zip_second c.loop-due.due-iterator)) ≡ c.rate_due.result + later =
+    rw (due, rates) (ap (λ rate. rate + later) (sym c.rate_due.ensures.value)) in
+    let hits : hits_in at.end (iter_rest (zip_first c.loop-due.due-iterator)) ≡ c.hit-hits.result + after = rw due (ap (λ hit. hit + after) (sym c.hit-hits.ensures.value)) in
     let m = ap length due in
     let n = ap length rates in
     record {

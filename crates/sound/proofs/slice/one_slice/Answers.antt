@@ -64,7 +64,7 @@ returns c =
     let row = c.row_look-row.result in
     let got = c.row_look-row.ensures in
     let ok = inside (goal.at.returns c).Else-long-gt-LONGEST_PERIOD in
-    let same = sum_counts row.fits row.sum (sum (row_at at.k at.shares.now)) (at.span.end - at.span.from) row.owed row.hits got.sum_is in
+    let same = sum_counts _ (sum (row_at at.k at.shares.now)) (at.span.end - at.span.from) row.owed row.hits got.sum_is in
     record {
       ok_value = rw ok (cc);
       hits_value = rw ok (cc);
