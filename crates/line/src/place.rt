@@ -2,11 +2,9 @@ ghost use Rattle.std.specs.Prelude.{◌≡◌, ◌+◌, ◌≤◌};
 ghost use Rattle.rules.specs.Station.{slot_count, longest_period, grains};
 ghost use Rattle.line.specs.Line.{on_line, run_before, Step, Along};
 
-use rows::word::smaller;
-
 // A place on the line: the core in whose stretch it lies, and the grains into that stretch. Kept so, a step divides
 // nothing.
-#[derive(Clone, Copy)]
+#[derive(Clone, Copy, Debug, PartialEq, Eq)]
 pub struct Place {
     pub core: u64,
     pub at: u64,
@@ -23,10 +21,7 @@ pub fn beyond(place: Place, share: u64, slice: u64) -> Place
     }
     let to = place.at + share;
     if to < slice {
-        Place {
-            core: place.core,
-            at: to,
-        }
+        Place { at: to, ..place }
     } else {
         Place {
             core: place.core + 1,
@@ -42,5 +37,5 @@ pub fn run_before(place: Place, run: u64) -> u64
     requires run_bound { run ≤ grains longest_period }
     ensures { result ≡ run_before run place }
 {
-    place.core * run + smaller(place.at, run)
+    place.core * run + place.at.min(run)
 }

@@ -1,6 +1,6 @@
 -- What a sound table asks of a row: 64 shares, beside each slot's deadline in ticks after the plan start, or 0 where no job is
 -- pending, and each slot's rate.
-use Rattle.std.specs.Prelude.{◌≡◌, ℕ, ◌+◌, ◌≤◌, Bool, true, cond, ◌&&◌, List, [], ◌∷◌, length, ◌==◌, nat_le, nat_lt}
+use Rattle.std.specs.Prelude.{◌≡◌, ℕ, ◌+◌, ◌≤◌, Bool, true, cond, ◌&&◌, List, [], ◌∷◌, Some, None, if◌then◌else◌, ◌==◌, nat_le, nat_lt}
 use Rattle.rules.specs.Station.{slot_count, grains, longest_period, sum}
 use Rattle.rows.specs.declared.look.RowFacts.{RowFacts}
 
@@ -28,17 +28,14 @@ unfoldable pub hits_in : ℕ → List ℕ → ℕ
 hits_in end [] = 0
 hits_in end (d ∷ ds) = cond (end == d) 1 0 + hits_in end ds
 
--- What a look asks: a deadline and a rate for each slot, rates whose sum fits a word, and a slice no longer than a period.
-pub record Rated (due rates : List ℕ) (most : ℕ) : Type 0 where
-  pub dues : length due ≡ slot_count
-  pub rated : length rates ≡ slot_count
+-- What a look asks: rates whose sum fits a word, and a slice no longer than a period.
+pub record Rated (rates : List ℕ) (most : ℕ) : Type 0 where
   pub small : sum rates ≤ 4294967295
   pub short : most ≤ grains longest_period
 
 -- What it hands back. A row that does not fit has no sum: it may have wrapped.
 pub record Facts (end most : ℕ) (due rates row : List ℕ) (r : RowFacts) : Type 0 where
-  pub fit : r.fits ≡ shares_fit end most due row
-  pub sum_is : r.fits ≡ true → r.sum ≡ sum row
+  pub sum_is : r.sum ≡ (if shares_fit end most due row then Some (sum row) else None)
   pub owed-is : r.owed ≡ owed_in end due rates
   pub hits_are : r.hits ≡ hits_in end due
   pub small : r.owed ≤ 4294967295

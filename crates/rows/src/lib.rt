@@ -1,7 +1,6 @@
 // Routines on one row of the share table: 64 shares, lent as a part of 64 words. No loop has a branch in it.
 #![tactic(auto)]
 
-pub mod word; // word.rt: what the loops do with one word
 pub mod zero; // zero.rt: words that are all zero
 pub mod store; // store.rt: a row is cleared, copied, or one share is raised
 pub mod look; // look.rt: what a sound table asks of a row

@@ -1,19 +1,17 @@
-ghost use Rattle.std.specs.Prelude.{◌≡◌, ◌≤◌, ◌&&◌, ltb, leb, length, if◌then◌else◌, nat_eq, nat_le, nat_lt};
-ghost use Rattle.rules.specs.Station.{slot_count, grains, longest_period};
+ghost use Rattle.std.specs.Prelude.{◌≡◌, ◌≤◌, ◌&&◌, ltb, leb, if◌then◌else◌, nat_eq, nat_le, nat_lt};
+ghost use Rattle.rules.specs.Station.{grains, longest_period};
 ghost use Rattle.rows.specs.Row.{mark, share_fits, Rated, Facts};
 
-use crate::word::{wide, wrapped};
 use rules::SLOTS;
 
 // The highest bit of a word.
 const MARK: u32 = 2147483648;
 
-// What a sound table asks of a row, in one pass: whether each share fits, the shares added up where they do, the rates
-// of the jobs that are due at the slice's end or after it, and how many are due at it.
-#[derive(Clone, Copy)]
+// What a sound table asks of a row, in one pass: the shares added up where each share fits, the rates of the jobs that
+// are due at the slice's end or after it, and how many are due at it.
+#[derive(Clone, Copy, Debug, PartialEq, Eq)]
 pub struct RowFacts {
-    pub fits: bool,
-    pub sum: u64,
+    pub sum: Option<u64>,
     pub owed: u64,
     pub hits: u64,
 }
@@ -30,7 +28,7 @@ fn excess(share: u32, most: u32) -> u32
     requires { most ≤ grains longest_period }
     ensures { nat_lt result mark ≡ nat_le share most }
 {
-    share | std::num::wrapping_sub_u32(most, share)
+    share | most.wrapping_sub(share)
 }
 
 // The highest bit of either word.
@@ -68,9 +66,14 @@ pub fn hit(due: u32, end: u32) -> u32
 // The row of a slice that ends `end` ticks after the plan start and has `most` grains. `due` has each slot's deadline,
 // in ticks after the plan start, or 0 where no job is pending. All words have 32 bits, so that the compiler takes four
 // slots at once: where each share fits, the sum has not wrapped.
-pub fn look(row: &[u32], due: &[u32], rates: &[u32], end: u32, most: u32) -> RowFacts
-    requires row_len { length row.now ≡ slot_count }
-    requires rated { Rated due.now rates.now most }
+pub fn look(
+    row: &[u32; SLOTS],
+    due: &[u32; SLOTS],
+    rates: &[u32; SLOTS],
+    end: u32,
+    most: u32,
+) -> RowFacts
+    requires { Rated rates.now most }
     ensures { Facts end most due.now rates.now row.now result }
 {
     let mut over: u32 = 0;
@@ -79,14 +82,13 @@ pub fn look(row: &[u32], due: &[u32], rates: &[u32], end: u32, most: u32) -> Row
     let mut hits: u32 = 0;
     for i in 0..SLOTS {
         over = with_share(over, row[i], due[i], end, most);
-        sum = wrapped(sum, row[i]);
+        sum = sum.wrapping_add(row[i]);
         owed += rate_due(rates[i], due[i], end);
         hits += hit(due[i], end);
     }
     RowFacts {
-        fits: over < MARK,
-        sum: wide(sum),
-        owed: wide(owed),
-        hits: wide(hits),
+        sum: (over < MARK).then_some(u64::from(sum)),
+        owed: u64::from(owed),
+        hits: u64::from(hits),
     }
 }

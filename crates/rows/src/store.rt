@@ -1,45 +1,40 @@
 ghost use Rattle.std.specs.Prelude.{◌≡◌, ◌+◌, ◌*◌, ◌<◌, ◌≤◌, ◌++◌, length, take, drop, slice_index, slice_set};
 ghost use Rattle.rules.specs.Station.{slot_count, zeros};
 
-use crate::word::{narrow, wide};
 use rules::SLOTS;
 
+// Two rows that stand together.
+pub const TWO_ROWS: usize = 2 * SLOTS;
+
 // A row becomes zero.
-pub fn clear(row: &mut [u32])
-    requires { length row.old ≡ slot_count }
+#[tactic(auto, unfolding(rules::specs::Station::zeros))]
+pub fn clear(row: &mut [u32; SLOTS])
     ensures { row.new ≡ zeros }
 {
-    for i in 0..SLOTS {
-        row[i] = 0;
-    }
+    row.fill(0);
 }
 
 // Of two rows that stand together, the second is copied over the first.
-pub fn copy_up(two: &mut [u32])
-    requires { length two.old ≡ 2 * slot_count }
+pub fn copy_up(two: &mut [u32; TWO_ROWS])
     ensures { two.new ≡ drop slot_count two.old ++ drop slot_count two.old }
 {
-    for i in 0..SLOTS {
-        two[i] = two[SLOTS + i];
-    }
+    let (first, second) = two.split_at_mut(SLOTS);
+    first.copy_from_slice(second);
 }
 
 // Of two rows that stand together, the first is copied over the second.
-pub fn copy_down(two: &mut [u32])
-    requires { length two.old ≡ 2 * slot_count }
+pub fn copy_down(two: &mut [u32; TWO_ROWS])
     ensures { two.new ≡ take slot_count two.old ++ take slot_count two.old }
 {
-    for i in 0..SLOTS {
-        two[SLOTS + i] = two[i];
-    }
+    let (first, second) = two.split_at_mut(SLOTS);
+    second.copy_from_slice(first);
 }
 
 // One slot gets more grains.
-pub fn add(row: &mut [u32], slot: usize, grains: u64)
-    requires row_len { length row.old ≡ slot_count }
+pub fn add(row: &mut [u32; SLOTS], slot: usize, grains: u64)
     requires slot_lt_slot_count { slot < slot_count }
     requires grains_bound { slice_index row.old slot + grains ≤ 4294967295 }
     ensures { row.new ≡ slice_set row.old slot (slice_index row.old slot + grains) }
 {
-    row[slot] = narrow(wide(row[slot]) + grains);
+    row[slot] = (u64::from(row[slot]) + grains) as u32;
 }

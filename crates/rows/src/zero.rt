@@ -1,7 +1,21 @@
 ghost use Rattle.std.specs.Prelude.{◌≡◌, ◌+◌, length, nat_eq};
 ghost use Rattle.rules.specs.Station.{sum};
 
-use crate::word::{joined, joined_four};
+// Two words in one, which is zero only where both are: a test for zeros that needs no wider sum.
+fn joined(a: u32, b: u32) -> u32
+    ensures parts_zero { result ≡ 0 → a + b ≡ 0 }
+    ensures zero { a + b ≡ 0 → result ≡ 0 }
+{
+    a | b
+}
+
+// Four words in one.
+fn joined_four(a: u32, b: u32, c: u32, d: u32) -> u32
+    ensures parts_zero { result ≡ 0 → a + b + (c + d) ≡ 0 }
+    ensures zero { a + b + (c + d) ≡ 0 → result ≡ 0 }
+{
+    joined(joined(a, b), joined(c, d))
+}
 
 // Whether all words of four parts of one length are zero. They are joined and not compared, so that the loop has no
 // early end, and taken from four places, so that it has fewer turns.

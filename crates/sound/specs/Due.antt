@@ -1,27 +1,19 @@
 -- What the check asks of all slices, beside deadlines counted from the plan start and rates, 64 numbers each.
-use Rattle.std.specs.Prelude.{◌≡◌, Bool, cond, ◌&&◌, ◌||◌, List, [], ◌∷◌, ℕ, ◌+◌, ◌-◌, ◌*◌, ◌≤◌, leb, ltb, eqb, length, take, drop}
+use Rattle.std.specs.Prelude.{Bool, cond, ◌&&◌, ◌||◌, List, [], ◌∷◌, ℕ, ◌+◌, ◌-◌, ◌*◌, ◌≤◌, leb, ltb, eqb, length, take, drop}
 use Rattle.rules.specs.Station.{Slice, grains, last_tick, longest_period, most_cores, slot_count, row_count, share_words, sum}
 use Rattle.rules.specs.Sound.{every, each_slice}
 use Rattle.rules.specs.Words.{rows_of, slices_of}
 use Rattle.rows.specs.Row.{shares_fit, owed_in, hits_in}
 
--- deadlines and rates side by side, one of each for each slot
-pub record Listed (due rates : List ℕ) : Type 0 where
-  pub due_long : length due ≡ slot_count
-  pub rates-long : length rates ≡ slot_count
-
--- and beside them the share table, where the rates together are small
-pub record Beside (due rates words : List ℕ) : Type 0 where
-  pub listed : Listed due rates
+-- what is asked of a row has what it needs: rates that together are small, and the share table
+pub record Beside (rates words : List ℕ) : Type 0 where
   pub light : sum rates ≤ 4294967295
   pub long : share_words ≤ length words
 
--- what is asked of the slices has what it needs: cores and boundaries in range
-pub record Planning (cores count : ℕ) (due rates ends words : List ℕ) : Type 0 where
+-- what is asked of the slices has what it needs: cores and boundaries in range, and the share table
+pub record Planning (cores count : ℕ) (words : List ℕ) : Type 0 where
   pub few-cores : cores ≤ most_cores
   pub few-rows : count ≤ row_count
-  pub listed : Listed due rates
-  pub bounds : length ends ≡ row_count
   pub long : share_words ≤ length words
 
 -- a slice from lo to `end` that ends within the longest period after the plan start and is no longer than it. In a sound table

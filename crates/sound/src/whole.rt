@@ -1,12 +1,12 @@
-ghost use Rattle.std.specs.Prelude.{◌≡◌, ◌&&◌, ◌||◌, ◌≤◌, leb, ltb, eqb, length};
+ghost use Rattle.std.specs.Prelude.{◌≡◌, ◌&&◌, ◌||◌, ◌≤◌, leb, ltb, eqb};
 ghost use Rattle.rules.specs.Station.{grains, most_cores, slot_count};
-ghost use Rattle.rules.specs.Held.{list_words, planner, is_sound_in};
+ghost use Rattle.rules.specs.Held.{planner, is_sound_in};
 ghost use Rattle.sound.specs.Due.{Planning, plan_test, scalars_test};
 
 use crate::due::{DueFacts, due_facts};
 use crate::slice::{ends_zero, slices_sound};
-use rules::{GRAINS, LAST_TICK, MOST_CORES, ROWS, SHARE_WORDS, SLOTS, State, TASKS_FROM};
-use slots::test::tasks_sound;
+use rules::{GRAINS, LAST_TICK, LIST_WORDS, MOST_CORES, ROWS, SHARE_WORDS, SLOTS, State};
+use slots::test::{Dues, tasks_sound};
 use table::zero::rows_zero;
 
 // "1 to 16 cores; clock in range; .. plan start is at most the clock"; and no more boundaries than rows.
@@ -28,44 +28,36 @@ fn load_sound(all: DueFacts, state: State) -> bool
     ensures { result ≡ leb all.owed (grains state.cores)
         && (ltb all.hits slot_count || eqb state.start state.clock) }
 {
-    if GRAINS * state.cores < all.owed {
-        return false;
-    }
-    if all.hits < SLOTS as u64 {
-        return true;
-    }
-    state.start == state.clock
+    all.owed <= GRAINS * state.cores && (all.hits < SLOTS as u64 || state.start == state.clock)
 }
 
 // The clauses about all slices, once cores and count are in range.
 #[tactic(auto, unfolding(crate::specs::Due::plan_test, rules::specs::Sound::every))]
-fn plan_sound(state: State, due: &[u32], rates: &[u32], ends: &[u64], shares: &[u32]) -> bool
-    requires { Planning state.cores state.count due.now rates.now ends.now shares.now }
-    ensures { result ≡ plan_test state.cores state.clock state.start due.now rates.now
+fn plan_sound(state: State, dues: &Dues, ends: &[u64; ROWS], shares: &[u32]) -> bool
+    requires { Planning state.cores state.count shares.now }
+    ensures { result ≡ plan_test state.cores state.clock state.start dues.now.due dues.now.rates
         state.count ends.now shares.now }
 {
-    let all = due_facts(due, rates, 0);
+    let all = due_facts(dues, 0);
     if !load_sound(all, state) {
         return false;
     }
     let jobs = SLOTS as u64 - all.hits;
     let count = state.count as usize;
-    let slices = slices_sound(shares, due, rates, ends, count, state.start);
+    let slices = slices_sound(shares, dues, ends, count, state.start);
     slices.ok && slices.hits == jobs && ends_zero(ends, count) && rows_zero(shares, count)
 }
 
 // A sound table, as it is held and lent: the check of every call.
-pub fn sound(state: State, lists: &[u64], shares: &[u32]) -> bool
-    requires { length lists.now ≡ list_words }
+pub fn sound(state: State, lists: &[u64; LIST_WORDS], shares: &[u32]) -> bool
     ensures { result ≡ is_sound_in (planner state lists.now) shares.now }
 {
     if shares.len() < SHARE_WORDS || !scalars(state) {
         return false;
     }
-    let mut due = [0u32; SLOTS];
-    let mut rates = [0u32; SLOTS];
-    if !tasks_sound(state, lists, &mut due, &mut rates) {
+    let Some(dues) = tasks_sound(state, lists) else {
         return false;
-    }
-    plan_sound(state, &due, &rates, &lists[0..TASKS_FROM], shares)
+    };
+    let ends = lists.first_chunk::<ROWS>().unwrap();
+    plan_sound(state, &dues, ends, shares)
 }

@@ -7,27 +7,27 @@ use Rattle.line.proofs.Laying.{laying_more, laying_all}
 use Rattle.line.proofs.Cutting.{cutting_none, cut_turn}
 use Rattle.line.proofs.cut.cut_first.Goals as goal
 
-pub loop-i-init : goal.loop-i-init
-loop-i-init c = cutting_none _ _ _ (omega arith)
+pub loop-share-init : goal.loop-share-init
+loop-share-init c = cutting_none _ _ _ (omega arith)
 
-pub overflow_sub-to : goal.overflow_sub-to
-overflow_sub-to c =
-    omega (arith, cut_turn c.requires.cut c.loop-i.e c.wide-share.result)
+pub overflow_sub-share : goal.overflow_sub-share
+overflow_sub-share c =
+    omega (arith, cut_turn c.requires c.loop-share.e c.from-grains.result)
 
-pub narrow-requires : goal.narrow-requires
-narrow-requires c =
-    omega (arith, cut_turn c.requires.cut c.loop-i.e c.wide-share.result)
+pub overflow_cast-share : goal.overflow_cast-share
+overflow_cast-share c =
+    omega (arith, cut_turn c.requires c.loop-share.e c.from-grains.result)
 
-pub loop-i-preserved : goal.loop-i-preserved
-loop-i-preserved c =
+pub loop-share-preserved : goal.loop-share-preserved
+loop-share-preserved c =
     record {
       within = search rules;
       long = search rules;
       far = search rules;
       was_is = search rules;
-      laid = laying_more c.loop-i.invariant.laid _ _ (omega arith) c.wide-share.ensures.value (cc);
+      laid = laying_more c.loop-share.invariant.laid _ _ (omega arith) c.from-grains.ensures (cc);
     }
 
 pub returns : goal.returns
 unfolding first_part
-returns c = laying_all c.loop-i.invariant.laid (omega arith)
+returns c = laying_all c.loop-share.invariant.laid (omega arith)

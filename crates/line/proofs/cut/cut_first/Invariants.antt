@@ -4,8 +4,8 @@ use Prim.Native.Nat.{◌-◌}
 use Rattle.line.proofs.Cutting.{Cutting}
 use Rattle.line.proofs.cut.cut_first.Given as goal
 
-abbrev pub invariant-loop-i : goal.invariant-loop-i
-invariant-loop-i l = Cutting l.part l.span l.initial.row l.e l.was l.i l.row
+abbrev pub invariant-loop-share : goal.invariant-loop-share
+invariant-loop-share l = Cutting l.part l.span l.initial.row l.e l.was l.share-index l.row
 
-abbrev pub decreases-loop-i : goal.decreases-loop-i
-decreases-loop-i l = 64 - l.i
+abbrev pub decreases-loop-share : goal.decreases-loop-share
+decreases-loop-share l = 64 - l.share-index

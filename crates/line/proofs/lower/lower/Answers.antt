@@ -16,15 +16,15 @@ use Rattle.line.proofs.lower.lower.Goals.{After-run_before-to}
 -- what a turn has run: from the place that it finds to the next
 walked : (c : After-run_before-to)
     → let k = c in
-    Turn (back k.args.slice k.args.run) (on_line k.args.slice k.loop-i.place) c.wide-share.result
-    k.loop-i.was c.run_before-to.result
+    Turn (back k.args.slice k.args.run) (on_line k.args.slice k.loop-share.place) c.from-grains.result
+    k.loop-share.was c.run_before-to.result
 walked c =
     let k = c in
     let next = c.beyond-place in
-    rw (k.loop-i.invariant.was_is, c.run_before-to.ensures) (walk k.requires.lower k.loop-i.place next.result k.loop-i.invariant.inside next.ensures.inside next.ensures.is)
+    rw (k.loop-share.invariant.was_is, c.run_before-to.ensures) (walk k.requires.lower k.loop-share.place next.result k.loop-share.invariant.inside next.ensures.inside next.ensures.is)
 
-pub loop-i-init : goal.loop-i-init
-loop-i-init c =
+pub loop-share-init : goal.loop-share-init
+loop-share-init c =
     record {
       within = search rules;
       long = search rules;
@@ -36,30 +36,29 @@ loop-i-init c =
     }
 
 pub beyond-place-requires : goal.beyond-place-requires
-beyond-place-requires c = omega (arith, c.loop-i.invariant.small c.loop-i.i)
-
-pub overflow_sub-to : goal.overflow_sub-to
-overflow_sub-to c = omega (arith, walked (goal.at.overflow_sub-to c).After-run_before-to)
+beyond-place-requires c = omega (arith, c.loop-share.invariant.small c.loop-share.share-index)
 
 pub overflow_sub-share : goal.overflow_sub-share
 overflow_sub-share c = omega (arith, walked (goal.at.overflow_sub-share c).After-run_before-to)
 
-pub loop-i-preserved : goal.loop-i-preserved
-loop-i-preserved c =
-    let share = c.wide-share in
+pub overflow_sub-share-in-loop-share : goal.overflow_sub-share-in-loop-share
+overflow_sub-share-in-loop-share c = omega (arith, walked (goal.at.overflow_sub-share-in-loop-share c).After-run_before-to)
+
+pub loop-share-preserved : goal.loop-share-preserved
+loop-share-preserved c =
+    let share = c.from-grains in
     let next = c.beyond-place in
-    let small : share.result ≤ c.args.slice = omega (arith, c.loop-i.invariant.small c.loop-i.i) in
-    let stored : c.narrow.result ≤ c.args.slice = le_trans (rw c.narrow.ensures (sub-le share.result _)) small in
+    let small : share.result ≤ c.args.slice = omega (arith, c.loop-share.invariant.small c.loop-share.share-index) in
     record {
       within = search rules;
       long = search rules;
-      small = small-set c.loop-i.row c.loop-i.i c.narrow.result c.loop-i.invariant.small stored;
+      small = small-set c.loop-share.row c.loop-share.share-index _ c.loop-share.invariant.small (le_trans (sub-le share.result _) small);
       inside = next.ensures.inside;
       far = omega arith;
       was_is = c.run_before-to.ensures;
-      laid = rw next.ensures.is (laying_more c.loop-i.invariant.laid _ _ (omega arith) share.ensures.value (cc (walked (goal.at.loop-i-preserved c).After-run_before-to).rest));
+      laid = rw next.ensures.is (laying_more c.loop-share.invariant.laid _ _ (omega arith) share.ensures (cc (walked (goal.at.loop-share-preserved c).After-run_before-to).rest));
     }
 
 pub returns : goal.returns
 returns c =
-    laying_all c.loop-i.invariant.laid (omega arith) ∙ sym (lower_relaid c.requires.lower.some c.args.run c.requires.lower.within c.args.row.now c.requires.shares_fit)
+    laying_all c.loop-share.invariant.laid (omega arith) ∙ sym (lower_relaid c.requires.lower.some c.args.run c.requires.lower.within c.args.row.now c.requires.shares_fit)

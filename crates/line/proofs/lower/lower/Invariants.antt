@@ -20,8 +20,8 @@ pub record Lowering (T x : ℕ) (whole : List ℕ) (place : Place) (was i : ℕ)
   pub was_is : was ≡ run_before x place
   pub laid : Laying (back T x) (relaid (back T x) 0 whole) i (on_line T place) row
 
-abbrev pub invariant-loop-i : goal.invariant-loop-i
-invariant-loop-i l = Lowering l.slice l.run l.initial.row l.place l.was l.i l.row
+abbrev pub invariant-loop-share : goal.invariant-loop-share
+invariant-loop-share l = Lowering l.slice l.run l.initial.row l.place l.was l.share-index l.row
 
-abbrev pub decreases-loop-i : goal.decreases-loop-i
-decreases-loop-i l = 64 - l.i
+abbrev pub decreases-loop-share : goal.decreases-loop-share
+decreases-loop-share l = 64 - l.share-index

@@ -1,20 +1,17 @@
--- `due_facts` goes through the slots once: after i turns each number is what the first i slots give, and with the rest's all slots'.
+-- `due_facts` goes through the slots once: each number so far, with what the slots left give, is what all slots give.
 -- 64 rates of 32 bits add up to less than 2 to the 38th.
-use mathlib.Core.Path.{◌≡◌}
-use mathlib.Core.List.{List}
-use Prim.Native.Nat.{ℕ, ◌+◌, ◌-◌, ◌*◌, ◌≤◌}
-use lib.ListN.{drop}
+use Rattle.std.proofs.Common.{◌≡◌, ℕ, ◌+◌, ◌*◌, ◌≤◌, List, length}
+use Rattle.std.specs.Iterator.Adapters.{zip_first, zip_second}
+use Rattle.std.specs.Slice.Iter.{iter_rest}
 use Rattle.rows.specs.Row.{owed_in, hits_in}
 use Rattle.sound.proofs.due.due_facts.Given as goal
 
-pub record Counting (due rates : List ℕ) (end owed hits i : ℕ) : Type 0 where
-  pub within : i ≤ 64
-  pub small : (owed ≤ 4294967295 * i) × (hits ≤ i)
-  pub owed-left : owed + owed_in end (drop i due) (drop i rates) ≡ owed_in end due rates
-  pub hits_left : hits + hits_in end (drop i due) ≡ hits_in end due
+pub record Counting (due rates : List ℕ) (end owed hits : ℕ) (due_left rates-left : List ℕ) : Type 0 where
+  pub same_length : length due_left ≡ length rates-left
+  pub owed-small : owed + 4294967295 * length due_left ≤ 274877906880
+  pub hits_small : hits + length due_left ≤ 64
+  pub owed-left : owed + owed_in end due_left rates-left ≡ owed_in end due rates
+  pub hits_left : hits + hits_in end due_left ≡ hits_in end due
 
-abbrev pub invariant-loop-i : goal.invariant-loop-i
-invariant-loop-i l = Counting l.due l.rates l.end l.owed l.hits l.i
-
-abbrev pub decreases-loop-i : goal.decreases-loop-i
-decreases-loop-i l = 64 - l.i
+abbrev pub invariant-loop-due : goal.invariant-loop-due
+invariant-loop-due l = Counting l.dues.due l.dues.rates l.end l.owed l.hits (iter_rest (zip_first l.due-iterator)) (iter_rest (zip_second l.due-iterator))

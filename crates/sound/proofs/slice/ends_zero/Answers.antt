@@ -1,23 +1,13 @@
--- `ends_zero` goes through the boundaries past the last: what was found, joined with what is left, says whether all are zero.
--- Numbers are all zero where their sum is.
-use mathlib.Core.Path.{refl, sym, ◌∙◌}
-use Prim.Native.Nat.{◌<◌, ◌≤◌}
-use native.Mathlib.Omega.{arith}
-use lib.ListN.{length}
-use Rattle.sound.proofs.Passed.{zero_next, zero_done}
+-- `ends_zero` looks at each boundary past the last: all are zero exactly where their sum is.
+use Rattle.std.proofs.Common.{rules, tests, ◌≡◌, drop, nat_eq, ◌∙◌, arith, length-drop}
+use Rattle.std.proofs.lemmas.Iterator.{YieldsList-from_slice}
+use Rattle.std.proofs.lemmas.Iterator.Search.{all_from_yields_List}
+use lib.Seq.{take_all}
+use Rattle.std.specs.Slice.Iter.{iter_rest}
+use Rattle.sound.proofs.Passed.{zero-all}
 use Rattle.sound.proofs.slice.ends_zero.Goals as goal
-
-pub loop-k-init : goal.loop-k-init
-loop-k-init c = (omega arith, refl)
-
-pub loop-k-preserved : goal.loop-k-preserved
-loop-k-preserved c =
-    let ends = c.args.ends.now in
-    let h : c.loop-k.k < length ends = omega arith in
-    (omega arith, rw c.and_zero-ok.ensures (zero_next c.loop-k.ok ends c.loop-k.k h ∙ c.loop-k.invariant.1))
 
 pub returns : goal.returns
 returns c =
-    let ends = c.args.ends.now in
-    let h : length ends ≤ c.loop-k.k = omega arith in
-    sym (zero_done c.loop-k.ok ends c.loop-k.k h) ∙ c.loop-k.invariant.1
+    let rest : iter_rest c.iter.result ≡ drop c.args.count c.args.ends.now = c.iter.ensures.rest ∙ take_all _ _ (simp length-drop (omega arith)) in
+    all_from_yields_List (λ end. nat_eq end 0) _ _ _ c.all.ensures.ran (YieldsList-from_slice _ rest) (λ x b q k. search (rules, tests)) ∙ zero-all _

@@ -35,21 +35,21 @@ inside c =
 pub returns-then-long-eq0 : goal.returns-then-long-eq0
 returns-then-long-eq0 c =
     let at = c.args in
-    let none = not_within at.span.start at.due.now at.rates.now at.span.from at.span.end (row_at at.k at.shares.now) (outside (goal.at.returns-then-long-eq0 c).Joined-then-long-eq0) in
+    let none = not_within at.span.start at.dues.now.due at.dues.now.rates at.span.from at.span.end (row_at at.k at.shares.now) (outside (goal.at.returns-then-long-eq0 c).Joined-then-long-eq0) in
     record {
       ok_value = none.0;
       hits_value = none.1;
       hits_le_slot_count = omega arith;
     }
 
-pub overflow_mul-long : goal.overflow_mul-long
-overflow_mul-long c = omega (arith, ltb-false)
+pub overflow_mul-most : goal.overflow_mul-most
+overflow_mul-most c = omega (arith, ltb-false)
 
-pub narrow-most-requires : goal.narrow-most-requires
-narrow-most-requires c = omega (arith, ltb-false)
+pub overflow_cast-most : goal.overflow_cast-most
+overflow_cast-most c = omega (arith, ltb-false)
 
-pub narrow-requires : goal.narrow-requires
-narrow-requires c = omega (arith, ltb-false)
+pub overflow_cast-at : goal.overflow_cast-at
+overflow_cast-at c = omega (arith, ltb-false)
 
 pub row_look-row-requires : goal.row_look-row-requires
 row_look-row-requires c = omega (arith, ltb-false)
@@ -64,7 +64,7 @@ returns c =
     let row = c.row_look-row.result in
     let got = c.row_look-row.ensures in
     let ok = inside (goal.at.returns c).Else-long-gt-LONGEST_PERIOD in
-    let same = sum_counts row.fits row.sum (sum (row_at at.k at.shares.now)) (at.span.end - at.span.from) row.owed row.hits got.sum_is in
+    let same = sum_counts _ (sum (row_at at.k at.shares.now)) (at.span.end - at.span.from) row.owed row.hits got.sum_is in
     record {
       ok_value = rw ok (cc);
       hits_value = rw ok (cc);

@@ -4,5 +4,5 @@ use native.Mathlib.Nat.{mul-le-mul}
 use native.Mathlib.Omega.{arith}
 use Rattle.sound.proofs.slice.row_fits.Goals as goal
 
-pub overflow_mul-long : goal.overflow_mul-long
-overflow_mul-long c = let at = c.args in omega (arith, mul-le-mul {n₁ = at.long} {m₁ = at.row.owed} {n₂ = 60000} {m₂ = 4294967295} (omega arith) (omega arith))
+pub overflow_mul-most : goal.overflow_mul-most
+overflow_mul-most c = let at = c.args in omega (arith, mul-le-mul {n₁ = at.long} {m₁ = at.row.owed} {n₂ = 60000} {m₂ = 4294967295} (omega arith) (omega arith))

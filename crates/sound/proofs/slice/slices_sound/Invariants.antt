@@ -3,7 +3,7 @@
 use mathlib.Core.Path.{◌≡◌}
 use mathlib.Core.Bool.{Bool, ◌&&◌}
 use mathlib.Core.List.{List}
-use Prim.Native.Nat.{ℕ, ◌+◌, ◌-◌, ◌*◌, ◌≤◌}
+use Prim.Native.Nat.{ℕ, ◌+◌, ◌*◌, ◌≤◌}
 use Rattle.rules.specs.Sound.{each_slice}
 use Rattle.sound.specs.Due.{slice_check, all_hits}
 use Rattle.sound.proofs.Passed.{slices_from}
@@ -16,7 +16,4 @@ pub record Passing (words due rates ends : List ℕ) (count start : ℕ) (ok : B
   pub hits_left : hits + all_hits start due lo (slices_from k count ends words) ≡ all_hits start due start (slices_from 0 count ends words)
 
 abbrev pub invariant-loop-k : goal.invariant-loop-k
-invariant-loop-k l = Passing l.shares l.due l.rates l.ends l.count l.start l.found.ok l.found.hits l.from l.k
-
-abbrev pub decreases-loop-k : goal.decreases-loop-k
-decreases-loop-k l = l.count - l.k
+invariant-loop-k l = Passing l.shares l.dues.due l.dues.rates l.ends l.count l.start l.found.ok l.found.hits l.from l.k

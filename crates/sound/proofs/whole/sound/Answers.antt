@@ -1,14 +1,14 @@
 -- `sound` asks the clauses that speak of single numbers and tasks first, and says no where one fails, as a sound table passes them all.
 -- What they bound lets the rest be computed, and the law of Clauses.antt says that the rest decides.
-use mathlib.Core.Path.{ap, sym, ◌∙◌}
+use mathlib.Core.Path.{◌≡◌, refl, ap, sym, ◌∙◌}
+use mathlib.Core.Bool.{Bool, true, false, cond}
+use Rattle.std.proofs.Common.{Some, None}
 use Prim.Native.Nat.{◌≤◌}
 use native.Mathlib.Omega.{arith}
 use lib.ListN.{length}
-use lib.Seq.{length-take-le}
 use Rattle.rules.specs.Held.{tasks_of, ends_of, is_sound_in}
 use Rattle.rules.proofs.Held.{slots_length}
 use Rattle.slots.proofs.Tests.{not_both}
-use Rattle.slots.proofs.Dues.{dues-long, rates-long}
 use Rattle.sound.proofs.Clauses.{InRange, in_range, Asked, refused, decided}
 use Rattle.sound.proofs.whole.sound.Goals as goal
 use Rattle.sound.proofs.whole.sound.Goals.{Else-not-scalars, then-shares-lt-SHARE_WORDS-via-then-shares-lt-SHARE_WORDS, then-shares-lt-SHARE_WORDS-via-else-shares-lt-SHARE_WORDS+then-not-scalars}
@@ -27,25 +27,25 @@ returns-then-shares-lt-SHARE_WORDS c =
 pub tasks_sound-requires : goal.tasks_sound-requires
 tasks_sound-requires c = omega (arith, ranged (goal.at.tasks_sound-requires c).Else-not-scalars)
 
-pub returns-then-not-tasks_sound : goal.returns-then-not-tasks_sound
+-- what an option says that is Some exactly where b holds
+none_where : {A : Type 0} (b : Bool) (x : A) → None ≡ cond b (Some x) None → b ≡ false
+none_where true x e = cc
+none_where false x e = refl
+
+some_where : {A : Type 0} (b : Bool) (x y : A) → Some y ≡ cond b (Some x) None → (b ≡ true) × (y ≡ x)
+some_where true x y e = (refl, cc)
+some_where false x y e = let never : ⊥ = cc in absurd never
+
+pub returns-in_default : goal.returns-in_default
 unfolding is_sound_in
-returns-then-not-tasks_sound c = refused _ _ _ _ _ _ _ _ (λ a. not_both a.each (sym c.tasks_sound.ensures.value ∙ c.if-not-tasks_sound.true))
+returns-in_default c = refused _ _ _ _ _ _ _ _ (λ a. not_both a.each (none_where _ _ (sym c.in_default.is ∙ c.tasks_sound.ensures)))
 
 pub plan_sound-requires : goal.plan_sound-requires
 plan_sound-requires c =
-    let at = c.args in
-    let ls = at.lists.now in
-    let tasks = c.tasks_sound.ensures in
-    let all = c.if-not-tasks_sound.false in
     let range = ranged (goal.at.plan_sound-requires c).Else-not-scalars in
     record {
       few-cores = range.some-cores;
       few-rows = range.some-rows;
-      listed = record {
-        due_long = ap length (tasks.due_after all) ∙ dues-long at.state.start (tasks_of ls) ∙ slots_length ls;
-        rates-long = ap length (tasks.rates_after all) ∙ rates-long (tasks_of ls) ∙ slots_length ls;
-      };
-      bounds = length-take-le 64 ls (omega arith);
       long = omega arith;
     }
 
@@ -57,11 +57,11 @@ returns c =
     let ls = at.lists.now in
     let w = at.shares.now in
     let enough : 4096 ≤ length w = omega arith in
-    let got = c.tasks_sound.ensures in
-    let all = c.if-not-tasks_sound.false in
+    let got = some_where _ _ _ (sym c.in-Some.is ∙ c.tasks_sound.ensures) in
     let a : Asked s.cores s.clock s.start s.used (tasks_of ls) s.count (ends_of ls) w = record {
       enough = enough;
       scalars = sym c.scalars.ensures ∙ c.if-not-scalars.false;
-      each = sym got.value ∙ all;
+      each = got.0;
     } in
-    decided s.cores s.clock s.start s.used (tasks_of ls) s.count (ends_of ls) w (slots_length ls) a (got.due_after all) (got.rates_after all) c.plan_sound.ensures
+    let chunk = rw c.unwrap-ends.ensures at c.first_chunk.ensures.cases in
+    decided s.cores s.clock s.start s.used (tasks_of ls) s.count (ends_of ls) w (slots_length ls) a (ap (λ d. d.due) got.1) (ap (λ d. d.rates) got.1) (rw chunk.same at c.plan_sound.ensures)

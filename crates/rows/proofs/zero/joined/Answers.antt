@@ -2,7 +2,7 @@
 -- So it is zero exactly where the sum is.
 use Rattle.std.proofs.Common.{arith}
 use lib.Bits.{or_add_and, and_le_l, and_le_r}
-use Rattle.rows.proofs.word.joined.Goals as goal
+use Rattle.rows.proofs.zero.joined.Goals as goal
 
 pub returns : goal.returns
 returns c =

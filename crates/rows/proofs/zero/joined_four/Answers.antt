@@ -1,7 +1,7 @@
 -- `joined_four` joins two pairs: it is zero exactly where both pairs are.
 -- Each joining says so of its two words.
 use Rattle.std.proofs.Common.{arith}
-use Rattle.rows.proofs.word.joined_four.Goals as goal
+use Rattle.rows.proofs.zero.joined_four.Goals as goal
 
 pub returns : goal.returns
 returns c =
