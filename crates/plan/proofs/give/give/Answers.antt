@@ -5,11 +5,12 @@ use Prim.Native.Nat.{◌≤◌}
 use native.Mathlib.Numerals.{add-one}
 use native.Mathlib.Omega.{arith}
 use lib.ListN.{get_or}
+use lib.Seq.{get_or-take}
 use borrow.Author.Rules.{rules}
 use borrow.Author.Tests.{le-leb}
 use Rattle.rows.proofs.Moves.{mixed_none}
 use Rattle.plan.specs.Planned.{begin_of}
-use Rattle.plan.proofs.Planned.{planned-long, planned-few, ready_at}
+use Rattle.plan.proofs.Planned.{planned-few, ready_at}
 use Rattle.plan.proofs.Given.{given-fits, given_more, given-all, given_stop}
 use Rattle.plan.proofs.give.give.Goals as goal
 
@@ -17,12 +18,10 @@ pub loop-k-init : goal.loop-k-init
 unfolding begin_of
 loop-k-init c = (search rules, refl, search rules, search rules, mixed_none _ _)
 
-pub bounds-ends-k : goal.bounds-ends-k
-bounds-ends-k c = let p = c.requires.plan_from.planned in omega (arith, planned-long p, planned-few p)
-
 pub returns-then-job-end : goal.returns-then-job-end
 returns-then-job-end c =
     let at = c.args in
+    let end = get_or-take at.count at.ends.now c.loop-k.k 0 (omega arith) in
     record {
       planned = given_stop at.job.slot at.job.rate at.job.deadline c.requires.plan_from.planned c.requires.plan_from.ready c.loop-k.invariant.4 (omega arith) (omega arith);
       shares_unchanged = c.loop-k.invariant.3;
@@ -30,6 +29,8 @@ returns-then-job-end c =
 
 pub gift-requires : goal.gift-requires
 gift-requires c =
+    let at = c.args in
+    let end = get_or-take at.count at.ends.now c.loop-k.k 0 (omega arith) in
     let here = ready_at c.requires.plan_from.planned c.requires.plan_from.ready c.loop-k.k (omega arith) in
     record {
       rate_bound = c.requires.rate_bound;
@@ -54,12 +55,13 @@ unfolding begin_of
 loop-k-preserved c =
     let at = c.args in
     let got = c.row_add.ensures in
+    let end = get_or-take at.count at.ends.now c.loop-k.k 0 (omega arith) in
     let more = given_more at.job.slot at.job.rate at.job.deadline c.requires.plan_from.planned c.requires.plan_from.ready c.loop-k.shares c.loop-k.invariant.4 (omega arith) in (
       search rules,
-      rw add-one,
+      rw (add-one, end),
       search rules,
       got.past ∙ c.loop-k.invariant.3,
-      rw (got.rows, c.gift.ensures.value, c.loop-k.invariant.1) (rw (le-leb (get_or at.ends.now c.loop-k.k 0) at.job.deadline (omega arith)) at more),
+      rw (got.rows, c.gift.ensures.value, end, c.loop-k.invariant.1) (rw (le-leb (get_or at.ends.now c.loop-k.k 0) at.job.deadline (omega arith)) at more),
     )
 
 pub returns : goal.returns
