@@ -40,13 +40,8 @@ pub fn replan(state: State, ends: &mut [u64; ROWS], shares: &mut [u32], job: New
     ensures shares_unchanged { drop share_words shares.new ≡ drop share_words shares.old }
 {
     lower_first(state, ends, shares);
-    let count = with_boundary(
-        shares,
-        ends,
-        state.count as usize,
-        job.deadline,
-        state.clock,
-    );
+    let count = state.count as usize;
+    let count = with_boundary(shares, ends, count, job.deadline, state.clock);
     give(shares, ends, count, job, state.clock);
     count as u64
 }
