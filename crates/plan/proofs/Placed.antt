@@ -1,14 +1,16 @@
 -- A new boundary d among the slices: its place k is the number of ends before it, and what is held with it is what was held, with d
 -- put in at k and, where slice k is cut, its row cut. The relation `Placed` goes along the slices once; all else is read off it.
 use mathlib.Core.Path.{◌≡◌, refl, sym, ap, ◌∙◌}
-use mathlib.Core.Bool.{true, false≢true}
+use mathlib.Core.Bool.{true, cond, false≢true}
 use mathlib.Core.Logic.{◌⊎◌, ⊎_elim}
 use mathlib.Core.List.{List, [], ◌∷◌}
 use Prim.Native.Nat.{ℕ, zero, suc, ◌+◌, ◌-◌, ◌≤◌, ◌<◌}
 use native.Mathlib.Nat.{not-suc-le-zero, le_of_suc-le-suc, le_of_lt}
 use native.Mathlib.Numerals.{one-add}
 use native.Mathlib.Omega.{arith}
+use lib.Dec.{ltb}
 use lib.ListN.{length, take, get_or}
+use Rattle.std.proofs.lemmas.List.Sums.{sum_by-cons}
 use borrow.Author.Tests.{lt-ltb, le-ltb, ne_eqb}
 use Rattle.rules.specs.Station.{Slice, zeros}
 use Rattle.rules.specs.Slices.{first_part, second_part, is_end, cut_at, with_end}
@@ -32,12 +34,17 @@ pub data Placed (d : ℕ) : ℕ → List Slice → ℕ → List Slice → Type 0
   within : {lo : ℕ} {s : Slice} {ss : List Slice} → lo < d → d < s.end → Placed d lo (s ∷ ss) 0 (cut_at d lo s ss)
   later : {lo k : ℕ} {s : Slice} {ss ws : List Slice} → s.end < d → Placed d s.end ss k ws → Placed d lo (s ∷ ss) (suc k) (s ∷ ws)
 
+-- one end more to count
+before_next : (d : ℕ) (s : Slice) (ss : List Slice) (n : ℕ) → before d (take (suc (length ss)) (ends_in (suc n) (s ∷ ss))) ≡ cond (ltb s.end d) 1 0 + before d (take (length ss) (ends_in n ss))
+unfolding before ends_in
+before_next d s ss n = sum_by-cons (λ e. cond (ltb e d) 1 0) s.end (take (length ss) (ends_in n ss))
+
 -- no end is before d where d is no later than the begin
 before_late : (d lo : ℕ) (ss : List Slice) (n : ℕ) → Each Rises lo ss → d ≤ lo → before d (take (length ss) (ends_in n ss)) ≡ 0
 unfolding before ends_in
 before_late d lo [] n r h = refl
 before_late d lo (s ∷ ss) zero r h = refl
-before_late d lo (s ∷ ss) (suc n) r h = let le : d ≤ s.end = omega arith in rw (le-ltb, before_late d s.end ss n r.1 le)
+before_late d lo (s ∷ ss) (suc n) r h = let le : d ≤ s.end = omega arith in rw (before_next d s ss n, le-ltb, before_late d s.end ss n r.1 le)
 
 -- the place is the number of ends before d, and the slices are those of `with_end`
 pub placed : (d lo : ℕ) (ss : List Slice) (n : ℕ) → Each Rises lo ss → lo < d → length ss ≤ n → Placed d lo ss (before d (take (length ss) (ends_in n ss))) (with_end d lo ss)
@@ -46,9 +53,9 @@ placed d lo [] n r l h = beyond
 placed d lo (s ∷ ss) zero r l h = absurd (not-suc-le-zero h)
 placed d lo (s ∷ ss) (suc n) r l h =
     with_end_cases (Placed d lo (s ∷ ss) (before d (take (suc (length ss)) (ends_in (suc n) (s ∷ ss))))) d lo s ss
-    (λ g. let le : d ≤ s.end = le_of_lt g in rw (le-ltb, before_late d s.end ss n r.1 le) (within l g))
-    (λ q. let le : d ≤ s.end = omega arith in rw (le-ltb, before_late d s.end ss n r.1 le) (there (sym q)))
-    (λ g. rw (lt-ltb, one-add) (later g (placed d s.end ss n r.1 g (le_of_suc-le-suc h))))
+    (λ g. let le : d ≤ s.end = le_of_lt g in rw (before_next d s ss n, le-ltb, before_late d s.end ss n r.1 le) (within l g))
+    (λ q. let le : d ≤ s.end = omega arith in rw (before_next d s ss n, le-ltb, before_late d s.end ss n r.1 le) (there (sym q)))
+    (λ g. rw (before_next d s ss n, lt-ltb, one-add) (later g (placed d s.end ss n r.1 g (le_of_suc-le-suc h))))
 
 -- a boundary that there is stands at its place
 pub placed_end : {d lo k : ℕ} {ss ws : List Slice} → Placed d lo ss k ws → (n : ℕ) → Each Rises lo ss → length ss ≤ n → is_end d ss ≡ true → (k < length ss) × (get_or (ends_in n ss) k 0 ≡ d)

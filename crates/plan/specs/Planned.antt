@@ -1,5 +1,5 @@
 -- Slices as they are held: their boundaries in 64 words with their number, and their rows in the share table.
-use Rattle.std.specs.Prelude.{◌≡◌, cond, List, [], ◌∷◌, ◌++◌, ℕ, zero, suc, ◌+◌, ◌-◌, ◌≤◌, ltb, length, take, drop, get_or}
+use Rattle.std.specs.Prelude.{◌≡◌, List, ◌∷◌, ◌++◌, ℕ, zero, suc, ◌+◌, ◌-◌, ◌≤◌, ltb, length, take, drop, get_or, count_by}
 use Rattle.rules.specs.Station.{Slice, longest_period, row_count}
 use Rattle.rules.specs.Sound.{Each, Rises, Small}
 use Rattle.rules.specs.Held.{ends_in}
@@ -24,8 +24,7 @@ pub record Ready (lo : ℕ) (ss : List Slice) : Type 0 where
 
 -- how many of some boundaries are before d
 unfoldable pub before : ℕ → List ℕ → ℕ
-before d [] = 0
-before d (e ∷ es) = cond (ltb e d) 1 0 + before d es
+before d ends = count_by (λ end. ltb end d) ends
 
 -- d put in at place k among count boundaries
 unfoldable pub put_in : ℕ → ℕ → ℕ → List ℕ → List ℕ

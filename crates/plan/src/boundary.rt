@@ -5,13 +5,14 @@ ghost use Rattle.plan.specs.Planned.{Planned, slices_in, begin_of};
 ghost use Rattle.plan.specs.Asked.{PlanFrom};
 
 use crate::ends::{place, put_in, take_out};
+use rules::ROWS;
 use table::cut::cut_row;
 use table::shift::drop_row;
 
 // Where the slice at place k begins: at the boundary before it, or at the plan start.
-fn begin(ends: &[u64], k: usize, start: u64) -> u64
-    requires ends_len { length ends.now ≡ row_count }
-    requires k_lt_row_count { k < row_count }
+#[tactic(auto, unfolding(crate::specs::Planned::begin_of))]
+fn begin(ends: &[u64; ROWS], k: usize, start: u64) -> u64
+    requires { k < row_count }
     ensures { result ≡ begin_of start k ends.now }
 {
     if k == 0 { start } else { ends[k - 1] }
@@ -22,7 +23,7 @@ fn begin(ends: &[u64], k: usize, start: u64) -> u64
 // already. Hands back how many boundaries there are then.
 pub fn with_boundary(
     shares: &mut [u32],
-    ends: &mut [u64],
+    ends: &mut [u64; ROWS],
     count: usize,
     d: u64,
     start: u64,
@@ -36,22 +37,20 @@ pub fn with_boundary(
     ensures shares_unchanged { drop share_words shares.new ≡ drop share_words shares.old }
 {
     let at = place(ends, count, d);
-    if at == count {
-        put_in(ends, at, count, d);
-        return count + 1;
+    if at < count {
+        let end = ends[at];
+        if end == d {
+            return count;
+        }
+        let lo = begin(ends, at, start);
+        cut_row(shares, at, count, d - lo, end - lo);
     }
-    let end = ends[at];
-    if end == d {
-        return count;
-    }
-    let lo = begin(ends, at, start);
-    cut_row(shares, at, count, d - lo, end - lo);
     put_in(ends, at, count, d);
     count + 1
 }
 
 // "row 0 is dropped, the rows move up, the last row becomes zero", and the first boundary goes with it.
-pub fn drop_boundary(shares: &mut [u32], ends: &mut [u64], count: usize)
+pub fn drop_boundary(shares: &mut [u32], ends: &mut [u64; ROWS], count: usize)
     requires share_words_in_bounds { share_words ≤ length shares.old }
     requires planned { Planned (slices_in ends.old count shares.old) ends.old count shares.old }
     requires count_nonzero { 0 < count }

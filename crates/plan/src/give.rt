@@ -5,6 +5,7 @@ ghost use Rattle.plan.specs.Planned.{Planned, slices_in};
 ghost use Rattle.plan.specs.Asked.{PlanFrom};
 
 use crate::NewJob;
+use rules::ROWS;
 use table::row::row_add;
 
 // What a job of this rate gets in a slice from lo to end: rate times length.
@@ -20,7 +21,7 @@ fn gift(rate: u64, lo: u64, end: u64) -> u64
 
 // "The new job gets rate times length in each slice that ends at or before d", its deadline. The first slice begins at
 // start. Ends rise, so the first that is after d ends the giving.
-pub fn give(shares: &mut [u32], ends: &[u64], count: usize, job: NewJob, start: u64)
+pub fn give(shares: &mut [u32], ends: &[u64; ROWS], count: usize, job: NewJob, start: u64)
     requires plan_from { PlanFrom start ends.now count shares.old }
     requires slot_lt_slot_count { job.slot < slot_count }
     requires rate_bound { job.rate ≤ grains 1 }
@@ -30,8 +31,7 @@ pub fn give(shares: &mut [u32], ends: &[u64], count: usize, job: NewJob, start: 
     ensures shares_unchanged { drop share_words shares.new ≡ drop share_words shares.old }
 {
     let mut lo = start;
-    for k in 0..count {
-        let end = ends[k];
+    for (k, &end) in ends[..count].iter().enumerate() {
         if job.deadline < end {
             return;
         }

@@ -1,7 +1,7 @@
 -- `drop_boundary` drops the first slice: its boundary is taken out, and its row with it.
 -- By the law `planned-drop`.
 use borrow.Author.Rules.{rules}
-use Rattle.plan.proofs.Planned.{planned-long, planned-few, planned-drop}
+use Rattle.plan.proofs.Planned.{planned-few, planned-drop}
 use Rattle.plan.proofs.boundary.drop_boundary.Goals as goal
 
 pub drop_row-requires : goal.drop_row-requires
@@ -13,7 +13,6 @@ drop_row-requires c = record {
 
 pub take_out-requires : goal.take_out-requires
 take_out-requires c = let p = c.requires.planned in record {
-  ends_len = planned-long p;
   count_nonzero = search rules;
   count_le_row_count = planned-few p;
 }

@@ -2,7 +2,7 @@
 -- The first slice ends after the clock and within a period of the plan start, so the numbers are in range.
 use mathlib.Core.Path.{◌≡◌, refl}
 use native.Mathlib.Omega.{arith}
-use Rattle.plan.proofs.Planned.{planned-long, planned-lowered, planned_none}
+use Rattle.plan.proofs.Planned.{planned-lowered, planned_none}
 use Rattle.plan.proofs.Replanned.{first}
 use Rattle.plan.proofs.replan.lower_first.Goals as goal
 
@@ -15,17 +15,14 @@ returns-then-state-eq0 c =
       shares_unchanged = refl;
     }
 
-pub bounds-ends-0 : goal.bounds-ends-0
-bounds-ends-0 c = omega (arith, planned-long c.requires.plan.planned)
+pub overflow_sub-slice : goal.overflow_sub-slice
+overflow_sub-slice c = omega (arith, first c.requires (omega arith))
 
-pub overflow_sub-ends : goal.overflow_sub-ends
-overflow_sub-ends c = omega (arith, first c.requires (omega arith))
+pub overflow_mul-slice : goal.overflow_mul-slice
+overflow_mul-slice c = omega (arith, first c.requires (omega arith))
 
-pub overflow_mul-ends : goal.overflow_mul-ends
-overflow_mul-ends c = omega (arith, first c.requires (omega arith))
-
-pub overflow_mul-state : goal.overflow_mul-state
-overflow_mul-state c = omega (arith, first c.requires (omega arith))
+pub overflow_mul-run : goal.overflow_mul-run
+overflow_mul-run c = omega (arith, first c.requires (omega arith))
 
 pub row_lower-requires : goal.row_lower-requires
 row_lower-requires c =

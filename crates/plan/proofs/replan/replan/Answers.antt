@@ -5,8 +5,8 @@ use borrow.Author.Rules.{rules}
 use Rattle.plan.proofs.Replanned.{boundary_plan, boundary_room, give_plan, replanned}
 use Rattle.plan.proofs.replan.replan.Goals as goal
 
-pub with_boundary-n-requires : goal.with_boundary-n-requires
-with_boundary-n-requires c =
+pub with_boundary-count-requires : goal.with_boundary-count-requires
+with_boundary-count-requires c =
     let low = c.lower_first.ensures.planned in
     record {
       plan_from = boundary_plan c.requires low (search rules);
@@ -17,7 +17,7 @@ with_boundary-n-requires c =
 pub give-requires : goal.give-requires
 give-requires c =
     record {
-      plan_from = give_plan c.requires c.lower_first.ensures.planned c.with_boundary-n.ensures.planned (search rules);
+      plan_from = give_plan c.requires c.lower_first.ensures.planned c.with_boundary-count.ensures.planned (search rules);
       slot_lt_slot_count = c.requires.inside;
       rate_bound = c.requires.slow;
     }
@@ -25,7 +25,7 @@ give-requires c =
 pub returns : goal.returns
 returns c =
     let low = c.lower_first.ensures in
-    let with = c.with_boundary-n.ensures in
+    let with = c.with_boundary-count.ensures in
     let done = c.give.ensures in
     record {
       planned = replanned c.requires low.planned with.planned done.planned;
