@@ -1,10 +1,7 @@
 -- `may_advance` asks for a sound table, and then for the tick and the room for segments.
 use mathlib.Core.Path.{◌≡◌, sym, ◌∙◌}
-use mathlib.Core.Bool.{true}
 use native.Mathlib.Omega.{arith}
-use Rattle.rules.specs.Held.{planner, is_sound_in}
-use Rattle.rules.specs.Numbers.{verdict, number_of}
-use Rattle.calls.specs.Called.{Agrees}
+use Rattle.rules.specs.Held.{planner}
 use Rattle.calls.proofs.Called.{number-unchecked, checked-agrees}
 use Rattle.std.proofs.Common.{rules}
 use Rattle.rules.specs.Calls.{advance}

@@ -15,8 +15,8 @@ returns-in_err-checked c =
     let same : c.from_residual.result ≡ c.checked.result = search rules in
     rw same (number-unchecked (planner at.state at.lists.now) at.shares.now c.checked.ensures (declare at.period at.cost) c.in_err-checked.was)
 
-pub load-requires-clause-lists_bound : goal.load-requires-clause-lists_bound
-load-requires-clause-lists_bound c =
+pub load-requires : goal.load-requires
+load-requires c =
     let at = c.args in
     let f = checked-agrees (planner at.state at.lists.now) at.shares.now c.checked.ensures (omega arith) c.in_ok-checked.was in
     omega (arith, load-range f.1)

@@ -1,6 +1,6 @@
 -- `release` leaves what the rules say: everything as it was with the reason, or the released table.
 -- That there is no reason is all that the steps of a release ask.
-use mathlib.Core.Path.{◌≡◌, sym, ◌∙◌}
+use mathlib.Core.Path.{◌≡◌, sym}
 use mathlib.Core.List.{[]}
 use native.Mathlib.Omega.{arith}
 use Rattle.std.proofs.Common.{rules, Err, length}
@@ -8,9 +8,8 @@ use Rattle.rules.specs.Numbers.{verdict}
 use Rattle.rules.specs.Held.{planner}
 use Rattle.rules.specs.Calls.{release}
 use Rattle.rules.specs.Held.{ends_of}
-use Rattle.plan.proofs.Planned.{planned-long}
 use Rattle.calls.proofs.Called.{err-left}
-use Rattle.calls.proofs.Joint.{clock-range, period-range, lent_length}
+use Rattle.calls.proofs.Joint.{clock-range, period-range}
 use Rattle.calls.proofs.Releasing.{free-to, replans_now, released-left}
 use Rattle.calls.proofs.release.release.Goals as goal
 
@@ -26,10 +25,7 @@ pub task_in-task-requires : goal.task_in-task-requires
 unfolding verdict
 task_in-task-requires c =
     let at = c.args in
-    record {
-      lists_len = omega arith;
-      slot_lt_slot_count = (free-to (planner at.state.now at.lists.now) at.shares.now (omega arith) at.slot (rw c.in_ok-may_release.was at (sym c.may_release.ensures))).inside;
-    }
+    (free-to (planner at.state.now at.lists.now) at.shares.now (omega arith) at.slot (rw c.in_ok-may_release.was at (sym c.may_release.ensures))).inside
 
 pub overflow_add-deadline : goal.overflow_add-deadline
 unfolding verdict
@@ -50,10 +46,7 @@ unfolding verdict
 put_deadline-requires c =
     let at = c.args in
     let got = c.replan-count in
-    record {
-      lists_len = lent_length at.lists.now got.new.ends (omega arith) (planned-long got.ensures.planned);
-      slot_lt_slot_count = (free-to (planner at.state.now at.lists.now) at.shares.now (omega arith) at.slot (rw c.in_ok-may_release.was at (sym c.may_release.ensures))).inside;
-    }
+    (free-to (planner at.state.now at.lists.now) at.shares.now (omega arith) at.slot (rw c.in_ok-may_release.was at (sym c.may_release.ensures))).inside
 
 pub returns : goal.returns
 unfolding ends_of verdict
@@ -65,5 +58,5 @@ returns c =
     let put = c.put_deadline in
     let ends : c.unwrap-ends.result.now ≡ ends_of at.lists.now = search rules in
     let plan = rw (ends, task) at got.ensures.planned in
-    let long = put.auto.lists ∙ lent_length at.lists.now got.new.ends (omega arith) (planned-long plan) in
+    let long : length put.new.lists ≡ 320 = search rules in
     rw task (released-left p at.shares.now (omega arith) at.slot (rw c.in_ok-may_release.was at (sym c.may_release.ensures)) plan long (rw task at put.ensures) got.ensures.shares_unchanged)

@@ -1,6 +1,6 @@
 -- `declare` leaves what the rules say: everything as it was with the reason, or the new task in the lowest free slot.
 -- That there is no reason says that a slot is free and its bit clear.
-use mathlib.Core.Path.{◌≡◌, refl, sym, ◌∙◌}
+use mathlib.Core.Path.{◌≡◌, refl, sym}
 use mathlib.Core.List.{[]}
 use native.Mathlib.Omega.{arith}
 use Rattle.std.proofs.Common.{rules, Err}
@@ -30,10 +30,7 @@ pub put_task-requires : goal.put_task-requires
 unfolding verdict
 put_task-requires c =
     let at = c.args in
-    record {
-      lists_len = omega arith;
-      slot_lt_slot_count = declared-slot (planner at.state.now at.lists.now) at.shares.now (omega arith) at.period at.cost (rw c.in_ok-may_declare.was at (sym c.may_declare.ensures)) c.lowest_free-slot.result c.lowest_free-slot.ensures;
-    }
+    declared-slot (planner at.state.now at.lists.now) at.shares.now (omega arith) at.period at.cost (rw c.in_ok-may_declare.was at (sym c.may_declare.ensures)) c.lowest_free-slot.result c.lowest_free-slot.ensures
 
 pub bit_of-requires : goal.bit_of-requires
 unfolding verdict
@@ -58,4 +55,4 @@ returns c =
     let p = planner at.state.now at.lists.now in
     let slot = c.lowest_free-slot in
     let put = c.put_task in
-    declared-left p at.shares.now (omega arith) at.period at.cost (rw c.in_ok-may_declare.was at (sym c.may_declare.ensures)) slot.result slot.ensures _ _ (rw c.rate_of.ensures.value refl) (put.auto.lists ∙ omega arith) put.ensures (rw c.bit_of.ensures refl)
+    declared-left p at.shares.now (omega arith) at.period at.cost (rw c.in_ok-may_declare.was at (sym c.may_declare.ensures)) slot.result slot.ensures _ _ (rw c.rate_of.ensures.value refl) (omega arith) put.ensures (rw c.bit_of.ensures refl)

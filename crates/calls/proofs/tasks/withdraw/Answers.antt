@@ -1,6 +1,6 @@
 -- `withdraw` leaves what the rules say: everything as it was with the reason, or the slot free.
 -- That there is no reason says that the slot is in use, so its bit is set.
-use mathlib.Core.Path.{◌≡◌, sym, ◌∙◌}
+use mathlib.Core.Path.{◌≡◌, sym}
 use mathlib.Core.List.{[]}
 use native.Mathlib.Omega.{arith}
 use Rattle.std.proofs.Common.{rules, Err}
@@ -24,10 +24,7 @@ pub put_task-requires : goal.put_task-requires
 unfolding verdict
 put_task-requires c =
     let at = c.args in
-    record {
-      lists_len = omega arith;
-      slot_lt_slot_count = withdrawn-inside (planner at.state.now at.lists.now) at.shares.now (omega arith) at.slot (rw c.in_ok-may_withdraw.was at (sym c.may_withdraw.ensures));
-    }
+    withdrawn-inside (planner at.state.now at.lists.now) at.shares.now (omega arith) at.slot (rw c.in_ok-may_withdraw.was at (sym c.may_withdraw.ensures))
 
 pub bit_of-requires : goal.bit_of-requires
 unfolding verdict
@@ -49,4 +46,4 @@ returns c =
     let put = c.put_task in
     let z = rw c.in_ok-may_withdraw.was at (sym c.may_withdraw.ensures) in
     let bit = withdrawn_bit p at.shares.now (omega arith) at.slot z in
-    withdrawn-left p at.shares.now (omega arith) at.slot z _ (put.auto.lists ∙ omega arith) put.ensures (omega (arith, c.bit_of.ensures))
+    withdrawn-left p at.shares.now (omega arith) at.slot z _ (omega arith) put.ensures (omega (arith, c.bit_of.ensures))
