@@ -80,9 +80,9 @@ pub fn look(
     let mut sum: u32 = 0;
     let mut owed: u32 = 0;
     let mut hits: u32 = 0;
-    for i in 0..SLOTS {
-        over = with_share(over, row[i], due[i], end, most);
-        sum = sum.wrapping_add(row[i]);
+    for (i, &share) in row.iter().enumerate() {
+        over = with_share(over, share, due[i], end, most);
+        sum = sum.wrapping_add(share);
         owed += rate_due(rates[i], due[i], end);
         hits += hit(due[i], end);
     }

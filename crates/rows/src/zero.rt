@@ -27,8 +27,8 @@ pub fn four_zero(a: &[u32], b: &[u32], c: &[u32], d: &[u32]) -> bool
         (sum a.now + sum b.now + (sum c.now + sum d.now)) 0 }
 {
     let mut seen: u32 = 0;
-    for i in 0..a.len() {
-        seen = joined(seen, joined_four(a[i], b[i], c[i], d[i]));
+    for (i, &word) in a.iter().enumerate() {
+        seen = joined(seen, joined_four(word, b[i], c[i], d[i]));
     }
     seen == 0
 }

@@ -2,7 +2,7 @@
 -- By the rules' law a row less what has run is the row along that line.
 use mathlib.Core.Path.{◌≡◌}
 use mathlib.Core.List.{List}
-use Prim.Native.Nat.{ℕ, ◌-◌, ◌<◌, ◌≤◌}
+use Prim.Native.Nat.{ℕ, ◌<◌, ◌≤◌}
 use lib.ListN.{length, get_or}
 use Rattle.rules.specs.Slices.{relaid}
 use Rattle.rules.proofs.Front.{back}
@@ -22,6 +22,3 @@ pub record Lowering (T x : ℕ) (whole : List ℕ) (place : Place) (was i : ℕ)
 
 abbrev pub invariant-loop-share : goal.invariant-loop-share
 invariant-loop-share l = Lowering l.slice l.run l.initial.row l.place l.was l.share-index l.row
-
-abbrev pub decreases-loop-share : goal.decreases-loop-share
-decreases-loop-share l = 64 - l.share-index

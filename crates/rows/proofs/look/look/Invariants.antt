@@ -1,6 +1,6 @@
 -- `look` goes through the slots once: after i turns each number is what the first i slots give, and with the rest's all slots'.
 -- The sum is kept without its multiples of 2 to the 32nd: where each share fits, 64 of them are less than that.
-use Rattle.std.proofs.Common.{◌≡◌, ℕ, ◌+◌, ◌-◌, ◌%◌, ◌≤◌, ◌&&◌, ltb, List, drop}
+use Rattle.std.proofs.Common.{◌≡◌, ℕ, ◌+◌, ◌%◌, ◌≤◌, ◌&&◌, ltb, List, drop}
 use Rattle.rules.specs.Station.{sum}
 use Rattle.rows.specs.Row.{shares_fit, owed_in, hits_in}
 use Rattle.rows.proofs.look.look.Given as goal
@@ -16,6 +16,3 @@ pub record Looking (row due rates : List ℕ) (end most over added owed hits i :
 
 abbrev pub invariant-loop-i : goal.invariant-loop-i
 invariant-loop-i l = Looking l.row l.due l.rates l.end l.most l.over l.sum l.owed l.hits l.i
-
-abbrev pub decreases-loop-i : goal.decreases-loop-i
-decreases-loop-i l = 64 - l.i

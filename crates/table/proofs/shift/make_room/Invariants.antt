@@ -8,6 +8,3 @@ use Rattle.table.proofs.shift.make_room.Given as goal
 
 abbrev pub invariant-loop-j : goal.invariant-loop-j
 invariant-loop-j l = (l.k ≤ l.j) × (l.j ≤ l.n) × (length l.shares ≡ length l.initial.shares) × Rowed l.initial.shares (moved_down l.j l.n (rows_of 64 l.initial.shares)) l.shares
-
-abbrev pub decreases-loop-j : goal.decreases-loop-j
-decreases-loop-j l = l.j
