@@ -60,7 +60,7 @@ rowed_then r q = record { rows = q.rows; past = q.past ∙ r.past }
 later : (a m : ℕ) (w ys : List ℕ) → put_mid (64 + a) m w ys ≡ take 64 w ++ put_mid a m (drop 64 w) ys
 later a m w ys = rw (take-add 64 a w, ← (drop-drop a 64 w), append_assoc)
 
-first_row : (n : ℕ) (r w : List ℕ) → length r ≡ 64 → rows_of (suc n) (r ++ w) ≡ r ∷ rows_of n w
+pub first_row : (n : ℕ) (r w : List ℕ) → length r ≡ 64 → rows_of (suc n) (r ++ w) ≡ r ∷ rows_of n w
 unfolding rows_of
 first_row n r w h = rw (take_at r w 64 h, drop_at r w 64 h)
 
@@ -167,3 +167,37 @@ module _ (v : List ℕ) (room : 4096 ≤ length v) (k m : ℕ) (ys : List ℕ) (
         let long : length y ≡ 64 = less-length (λ i. get_or x i 0) 0 (row_at (suc k) v) ∙ length_row (suc k) v h room in
         let r = apart x y (length_row k v (omega arith) room) long made in
         record { rows = r.rows ∙ rw (set-get_or (rows_of 64 v) k []); past = r.past }
+
+-- A table v cut where row k begins: row k is the first 64 of the words behind the cut.
+module _ (v : List ℕ) (room : 4096 ≤ length v) (k : ℕ) (front rest : List ℕ) (ahead : front ≡ take (64 * k) v) (behind : rest ≡ drop (64 * k) v) where
+  pub row_lent : (row : List ℕ) → k < 64 → row ≡ take 64 rest → row ≡ row_at k v
+  row_lent row h is = is ∙ rw behind (row_part k 64 v refl h)
+
+  -- row k was lent to a routine that makes f of a row, and comes back as ys
+  pub row_back : (row ys : List ℕ) (f : List ℕ → List ℕ) → k < 64 → row ≡ take 64 rest → ((r : List ℕ) → length r ≡ 64 → length (f r) ≡ 64) → ys ≡ f row
+      → Rowed v (set (rows_of 64 v) k (f (row_at k v))) (front ++ (ys ++ drop 64 rest))
+  row_back row ys f h is keeps got =
+      let made : ys ≡ f (take 64 (drop (64 * k) v)) = rw (is, behind) at got in
+      let lent : length (take 64 (drop (64 * k) v)) ≡ 64 = length-take-le 64 (drop (64 * k) v) (simp length-drop (omega arith)) in
+      rw (ahead, behind) (row_put v room k 64 ys (rw (made, keeps _ lent) (sym lent)) f h refl made)
+
+  -- row k - 1 is the last 64 of the words before the cut
+  pub row_before : (row : List ℕ) (j : ℕ) → k ≡ j + 1 → k ≤ 64 → row ≡ drop (length front - 64) front → row ≡ row_at j v
+  row_before row j is h last =
+      let long : length front ≡ 64 * k = rw ahead (length-take-le (64 * k) v (omega arith)) in
+      let here : length front - 64 ≡ 64 * j = omega arith in
+      let far : 64 * k ≡ 64 * j + 64 = omega arith in
+      last ∙ rw (here, ahead, far) (drop-take (64 * j) 64 v (omega arith)) ∙ row_part j 64 v refl (omega arith)
+
+  -- the first 128 of the words behind the cut were lent, and come back as ys
+  pub row_up_back : (two ys : List ℕ) → suc k < 64 → two ≡ take 128 rest → ys ≡ drop 64 two ++ drop 64 two → Rowed v (set (rows_of 64 v) k (row_at (suc k) v)) (front ++ (ys ++ drop 128 rest))
+  row_up_back two ys h is got =
+      let made : ys ≡ drop 64 (take 128 (drop (64 * k) v)) ++ drop 64 (take 128 (drop (64 * k) v)) = rw (is, behind) at got in
+      let lent : length (take 128 (drop (64 * k) v)) ≡ 128 = length-take-le 128 (drop (64 * k) v) (simp length-drop (omega arith)) in
+      rw (ahead, behind) (row_up v room k 128 ys (rw made (simp (length-append, length-drop) (omega arith))) h refl made)
+
+  pub row_down_back : (two ys : List ℕ) → suc k < 64 → two ≡ take 128 rest → ys ≡ take 64 two ++ take 64 two → Rowed v (set (rows_of 64 v) (suc k) (row_at k v)) (front ++ (ys ++ drop 128 rest))
+  row_down_back two ys h is got =
+      let made : ys ≡ take 64 (take 128 (drop (64 * k) v)) ++ take 64 (take 128 (drop (64 * k) v)) = rw (is, behind) at got in
+      let lent : length (take 128 (drop (64 * k) v)) ≡ 128 = length-take-le 128 (drop (64 * k) v) (simp length-drop (omega arith)) in
+      rw (ahead, behind) (row_down v room k 128 ys (rw made (simp (length-append, length-take, length-drop) (omega arith))) h refl made)

@@ -2,15 +2,16 @@
 -- Sums of parts add up, and a sum is 0 only where both its parts are.
 use mathlib.Core.Logic.{◌↔◌}
 use mathlib.Core.Path.{◌≡◌, refl, ap}
-use mathlib.Core.List.{List, [], ◌∷◌, ◌++◌}
+use mathlib.Core.List.{List, [], ◌∷◌, ◌++◌, append_assoc}
 use Prim.Native.Nat.{ℕ, zero, suc, ◌+◌, ◌-◌, ◌*◌, ◌<◌, ◌≤◌, suc-le-suc}
 use native.Mathlib.Nat.{not-suc-le-zero, le_of_suc-le-suc, add-sub_of_le}
 use native.Mathlib.Omega.{arith}
 use lib.ListN.{length, take, drop, get_or, replicate, length-take, length-drop}
 use lib.Seq.{take-add, drop-drop, length-take-le}
+use Rattle.std.proofs.lemmas.List.{replicate-append-replicate}
 use Rattle.rules.specs.Station.{sum, zeros}
 use Rattle.rules.specs.Words.{rows_of, rows_in}
-use Rattle.table.proofs.Rowed.{drop-take, rows_of_at}
+use Rattle.table.proofs.Rowed.{drop-take, rows_of_at, first_row}
 
 pub length-rows_in : (n : ℕ) → length (rows_in n []) ≡ n
 unfolding rows_in
@@ -22,6 +23,14 @@ unfolding rows_in
 rows_in_at zero i h = absurd (not-suc-le-zero h)
 rows_in_at (suc n) zero h = refl
 rows_in_at (suc n) (suc i) h = rows_in_at n i (le_of_suc-le-suc h)
+
+-- words that are all 0 are rows of zeros
+pub zero_words_rows : (n : ℕ) (past : List ℕ) → rows_of n (replicate (64 * n) 0 ++ past) ≡ rows_in n []
+unfolding rows_of rows_in zeros
+zero_words_rows zero past = refl
+zero_words_rows (suc n) past =
+    let next : 64 * suc n ≡ 64 + 64 * n = omega arith in
+    rw (next, ← (replicate-append-replicate {A = ℕ} 64 (64 * n) 0), append_assoc, first_row n (replicate 64 0) (replicate (64 * n) 0 ++ past) refl) (ap (λ rs. replicate 64 0 ∷ rs) (zero_words_rows n past))
 
 sum-append : (a b : List ℕ) → sum (a ++ b) ≡ sum a + sum b
 unfolding sum

@@ -16,9 +16,8 @@ fn row_first(shares: &mut [u32], k: usize, part: u64, span: u64)
     ensures { RowSet shares.old k (first_part part span (row_at k shares.old))
         shares.new }
 {
-    let a = SLOTS * k;
-    let b = a + SLOTS;
-    line::cut::cut_first(&mut shares[a..b], part, span);
+    let (_, from) = shares.split_at_mut(SLOTS * k);
+    line::cut::cut_first(from.first_chunk_mut().unwrap(), part, span);
 }
 
 // Row k, the first part of a cut, is taken from row k + 1, the whole row.
@@ -30,9 +29,8 @@ fn row_rest(shares: &mut [u32], k: usize)
         (less (λ i. get_or (row_at k shares.old) i 0) 0 (row_at (k + 1) shares.old))
         shares.new }
 {
-    let a = SLOTS * k;
-    let b = a + 2 * SLOTS;
-    line::cut::cut_rest(&mut shares[a..b]);
+    let (to, from) = shares.split_at_mut(SLOTS * (k + 1));
+    line::cut::cut_rest(to.last_chunk().unwrap(), from.first_chunk_mut().unwrap());
 }
 
 // "that slice is cut in two": of n rows in use, row k, of `span` ticks, after its first `part`. Once there is room the

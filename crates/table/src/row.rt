@@ -13,19 +13,18 @@ use rules::SLOTS;
 pub fn row_look(
     shares: &[u32],
     k: usize,
-    due: &[u32],
-    rates: &[u32],
+    due: &[u32; SLOTS],
+    rates: &[u32; SLOTS],
     end: u32,
     most: u32,
 ) -> RowFacts
     requires share_words_in_bounds { share_words ≤ length shares.now }
     requires k_lt_row_count { k < row_count }
-    requires rated { Rated due.now rates.now most }
+    requires rated { Rated rates.now most }
     ensures { Facts end most due.now rates.now (row_at k shares.now) result }
 {
-    let a = SLOTS * k;
-    let b = a + SLOTS;
-    rows::look::look(&shares[a..b], due, rates, end, most)
+    let (_, from) = shares.split_at(SLOTS * k);
+    rows::look::look(from.first_chunk().unwrap(), due, rates, end, most)
 }
 
 // Row k becomes zero.
@@ -34,9 +33,8 @@ pub fn row_clear(shares: &mut [u32], k: usize)
     requires k_lt_row_count { k < row_count }
     ensures { RowSet shares.old k zeros shares.new }
 {
-    let a = SLOTS * k;
-    let b = a + SLOTS;
-    rows::store::clear(&mut shares[a..b]);
+    let (_, from) = shares.split_at_mut(SLOTS * k);
+    rows::store::clear(from.first_chunk_mut().unwrap());
 }
 
 // One slot of row k gets more grains.
@@ -49,9 +47,8 @@ pub fn row_add(shares: &mut [u32], k: usize, slot: usize, grains: u64)
         (set (row_at k shares.old) slot (get_or (row_at k shares.old) slot 0 + grains))
         shares.new }
 {
-    let a = SLOTS * k;
-    let b = a + SLOTS;
-    rows::store::add(&mut shares[a..b], slot, grains);
+    let (_, from) = shares.split_at_mut(SLOTS * k);
+    rows::store::add(from.first_chunk_mut().unwrap(), slot, grains);
 }
 
 // Each share of row k, whose slice has `slice` grains, is lowered by what its task has run in the first `run`.
@@ -63,7 +60,6 @@ pub fn row_lower(shares: &mut [u32], k: usize, slice: u64, run: u64)
     ensures { RowSet shares.old k (lower_row slice run (row_at k shares.old))
         shares.new }
 {
-    let a = SLOTS * k;
-    let b = a + SLOTS;
-    line::lower::lower(&mut shares[a..b], slice, run);
+    let (_, from) = shares.split_at_mut(SLOTS * k);
+    line::lower::lower(from.first_chunk_mut().unwrap(), slice, run);
 }

@@ -12,9 +12,8 @@ fn row_up(shares: &mut [u32], k: usize)
     requires k_bound { k + 1 < row_count }
     ensures { RowSet shares.old k (row_at (k + 1) shares.old) shares.new }
 {
-    let a = SLOTS * k;
-    let b = a + 2 * SLOTS;
-    rows::store::copy_up(&mut shares[a..b]);
+    let (_, from) = shares.split_at_mut(SLOTS * k);
+    rows::store::copy_up(from.first_chunk_mut().unwrap());
 }
 
 // Row k is copied over row k + 1.
@@ -23,9 +22,8 @@ fn row_down(shares: &mut [u32], k: usize)
     requires k_bound { k + 1 < row_count }
     ensures { RowSet shares.old (k + 1) (row_at k shares.old) shares.new }
 {
-    let a = SLOTS * k;
-    let b = a + 2 * SLOTS;
-    rows::store::copy_down(&mut shares[a..b]);
+    let (_, from) = shares.split_at_mut(SLOTS * k);
+    rows::store::copy_down(from.first_chunk_mut().unwrap());
 }
 
 // "row 0 is dropped, the rows move up, the last row becomes zero": of n rows in use. The rows after them are zero and
@@ -53,9 +51,7 @@ pub fn make_room(shares: &mut [u32], k: usize, n: usize)
     ensures { Rowed shares.old (moved_down k n (rows_of row_count shares.old))
         shares.new }
 {
-    let mut j = n;
-    while k < j {
-        j -= 1;
+    for j in (k..n).rev() {
         row_down(shares, j);
     }
 }

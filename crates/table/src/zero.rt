@@ -2,7 +2,6 @@ ghost use Rattle.std.specs.Prelude.{◌≡◌, [], ◌*◌, ◌≤◌, eqb, leng
 ghost use Rattle.rules.specs.Station.{slot_count, row_count, share_words, sum};
 ghost use Rattle.rules.specs.Words.{Rowed, rows_in};
 
-use crate::row::row_clear;
 use rules::{ROWS, SHARE_WORDS, SLOTS};
 
 // Whether all rows from n on are zero: their words, in four parts.
@@ -29,7 +28,5 @@ pub fn clear_table(shares: &mut [u32])
     requires { share_words ≤ length shares.old }
     ensures { Rowed shares.old (rows_in row_count []) shares.new }
 {
-    for k in 0..ROWS {
-        row_clear(shares, k);
-    }
+    shares[..SHARE_WORDS].fill(0);
 }

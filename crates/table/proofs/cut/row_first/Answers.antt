@@ -1,14 +1,15 @@
 -- `row_first` makes the first part of a cut of row k, in its place.
--- By the law `row_put`.
-use Prim.Native.Nat.{◌+◌, ◌-◌, ◌*◌}
-use native.Mathlib.Omega.{arith}
-use Rattle.rules.specs.Slices.{first_part}
-use Rattle.table.proofs.Rowed.{row_put}
+-- By the law `row_back`.
+use Rattle.std.proofs.Common.{◌∙◌}
+use Rattle.rules.specs.Slices.{first_part, first_to}
+use Rattle.rules.proofs.Relaid.{relaid-length}
+use Rattle.table.proofs.Rowed.{row_back}
 use Rattle.table.proofs.cut.row_first.Goals as goal
 
 pub returns : goal.returns
+unfolding first_part
 returns c =
     let at = c.args in
-    let got = c.cut_first in
-    let a = 64 * at.k in
-    row_put at.shares.now (omega arith) at.k (a + 64 - a) got.new.row got.auto.row (first_part at.part at.span) (omega arith) (omega arith) got.ensures
+    let cut = c.split_at_mut-from in
+    let part = rw c.unwrap.ensures at c.first_chunk_mut.ensures.cases in
+    row_back at.shares.now c.requires.share_words_in_bounds at.k cut.result.0.now cut.result.1.now cut.ensures.front cut.ensures.back c.unwrap.result.now c.cut_first.new.row (first_part at.part at.span) c.requires.k_lt_row_count part.same (λ r h. relaid-length (first_to at.part at.span) 0 r ∙ h) c.cut_first.ensures

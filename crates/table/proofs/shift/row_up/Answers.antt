@@ -1,14 +1,12 @@
 -- `row_up` copies one of two rows over the other: both are lent as one part.
--- The law `row_up` says what such a part makes of the table.
-use Prim.Native.Nat.{◌+◌, ◌-◌, ◌*◌}
-use native.Mathlib.Omega.{arith}
-use native.Mathlib.Numerals.{add-one}
-use Rattle.table.proofs.Rowed.{row_up}
+-- The law `row_up_back` says what such a part makes of the table.
+use Rattle.std.proofs.Common.{add-one, arith}
+use Rattle.table.proofs.Rowed.{row_up_back}
 use Rattle.table.proofs.shift.row_up.Goals as goal
 
 pub returns : goal.returns
 returns c =
     let at = c.args in
-    let got = c.copy_up in
-    let a = 64 * at.k in
-    rw (add-one at.k) (row_up at.shares.now (omega arith) at.k (a + 128 - a) got.new.two got.auto.two (omega arith) (omega arith) got.ensures)
+    let cut = c.split_at_mut-from in
+    let part = rw c.unwrap.ensures at c.first_chunk_mut.ensures.cases in
+    rw (add-one at.k) (row_up_back at.shares.now c.requires.share_words_in_bounds at.k cut.result.0.now cut.result.1.now cut.ensures.front cut.ensures.back c.unwrap.result.now c.copy_up.new.two (omega arith) part.same c.copy_up.ensures)
