@@ -49,6 +49,9 @@ pub used_task : (clock start : ℕ) (k : Task) → ((in_use k && lawful_test k) 
 unfolding task_test unused_test flag
 used_task clock start k = by_bool (in_use k) (λ is. rw is (simp and-true)) (λ none. rw none)
 
+-- one slot, by its bit
+pub ruleset of_one_task = (free_task, free-rate, used_task)
+
 -- the word and the tasks from slot i on
 unfoldable pub agree : ℕ → ℕ → ℕ → List Task → Bool
 agree clock start left ks = eqb left (used_of ks) && each_task (task_test clock start) ks

@@ -1,13 +1,15 @@
 -- A cost divided by a period and rounded up, by two products: the rate times the period reaches the cost, one less does not.
 -- Both are facts about the quotient at the period's scale.
 use mathlib.Core.Path.{◌≡◌, refl, ap, sym}
-use mathlib.Core.Bool.{true, ◌&&◌, and-eq-true_iff}
+use mathlib.Core.Bool.{true, ◌&&◌, and_assoc, and-eq-true_iff}
 use Prim.Native.Nat.{ℕ, ◌+◌, ◌-◌, ◌*◌, ◌≤◌, ◌<◌}
 use native.Mathlib.Nat.{sub-add_cancel, mul-le-mul_right}
 use native.Mathlib.Omega.{arith}
-use borrow.Author.Tests.{lt-ltb, ltb-true, le-leb, leb-true, eq-eqb, eqb-true}
+use borrow.Author.Tests.{lt-ltb, le-ltb, ltb-true, le-leb, leb-true, eq-eqb, eqb-true}
 use lib.Dec.{leb, ltb, eqb}
-use Rattle.rules.specs.Station.{rate_of}
+use Rattle.rules.specs.declared.Task.{Task}
+use Rattle.rules.specs.Station.{rate_of, in_use}
+use Rattle.rules.specs.Sound.{every, lawful_test}
 use Rattle.rules.proofs.Floor.{at_scale, floor, unique, by_lt}
 use Rattle.slots.proofs.Tests.{same_bool}
 
@@ -63,3 +65,11 @@ lawful-rate p c r some = same_bool _ _ to from
         let less = one_less r p more in
         let most = mul-le-mul_right p small in
         (and-eq-true_iff _ _).1 (le-leb 1 c (omega arith), (and-eq-true_iff _ _).1 (le-leb c (1000 * p) (omega arith), (and-eq-true_iff _ _).1 (eq-eqb r (rate_of p c) (rate-to p c r some more (omega arith) reached), refl)))
+
+-- the same for a task that is in use with a period of at most 60,000
+pub lawful_is : (k : Task) → (in_use k && lawful_test k) ≡ ((((leb 1 k.period && leb k.period 60000) && leb 1 k.rate) && leb k.rate 1000) && (leb k.cost (k.rate * k.period) && ltb (k.rate * k.period - k.period) k.cost))
+unfolding lawful_test in_use every
+lawful_is k =
+    by_lt 0 k.period
+    (λ used. rw (lt-ltb 0 k.period used, lawful-rate k.period k.cost k.rate used) (simp and_assoc))
+    (λ none. rw (le-ltb 0 k.period none))

@@ -22,18 +22,17 @@ fn rate_is(period: u64, cost: u64, rate: u64) -> bool
 
 // "every slot in use has a lawful period, cost and rate". A lawful rate is "1 to 1,000", which bounds the cost too. What a yes bounds is
 // said for the callers.
+#[tactic(auto, using(crate::proofs::Rate::lawful_is))]
 fn lawful(task: Task) -> bool
     ensures value { result ≡ in_use task && lawful_test task }
     ensures period_le_longest_period { result ≡ true → task.period ≤ longest_period }
     ensures rate_bound { result ≡ true → task.rate ≤ 1000 }
 {
-    if task.period < 1 || LONGEST_PERIOD < task.period {
-        return false;
-    }
-    if task.rate < 1 || GRAINS < task.rate {
-        return false;
-    }
-    rate_is(task.period, task.cost, task.rate)
+    1 <= task.period
+        && task.period <= LONGEST_PERIOD
+        && 1 <= task.rate
+        && task.rate <= GRAINS
+        && rate_is(task.period, task.cost, task.rate)
 }
 
 // "each pending job's deadline is in range, above the clock and at most plan start plus period"
@@ -43,13 +42,14 @@ fn in_time(task: Task, clock: u64, start: u64) -> bool
     requires period_le_longest_period { task.period ≤ longest_period }
     ensures { result ≡ in_time_test clock start task }
 {
-    if task.deadline == 0 {
-        return true;
-    }
-    task.deadline <= LAST_TICK && clock < task.deadline && task.deadline <= start + task.period
+    task.deadline == 0
+        || (task.deadline <= LAST_TICK
+            && clock < task.deadline
+            && task.deadline <= start + task.period)
 }
 
 // "Slots not in use hold zeros." Four numbers in one, which is zero only where all are.
+#[tactic(auto, using(crate::proofs::Tests::or_zero), unfolding(crate::specs::Tests::free_test, rules::specs::Sound::every))]
 fn unused(task: Task) -> bool
     ensures { result ≡ free_test task }
 {
@@ -58,15 +58,17 @@ fn unused(task: Task) -> bool
 
 // One slot: the lowest bit of what is left of the slots in use says whether it is, and its task is sound by itself. A sound task's rate
 // is at most 1,000.
+#[tactic(auto, using(crate::proofs::Bits::of_one_task))]
 fn one_task(used: u64, task: Task, clock: u64, start: u64) -> bool
     requires { start ≤ last_tick }
     ensures value { result ≡ eqb (used % 2) (flag (in_use task)) && task_test clock start task }
     ensures rate_bound { result ≡ true → task.rate ≤ 1000 }
 {
     if used % 2 == 0 {
-        return unused(task);
+        unused(task)
+    } else {
+        lawful(task) && in_time(task, clock, start)
     }
-    lawful(task) && in_time(task, clock, start)
 }
 
 // A deadline in ticks after the plan start, or 0 where no job is pending: the low 32 bits, which a sound job's deadline fits.
