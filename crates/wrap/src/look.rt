@@ -3,7 +3,7 @@ ghost use Rattle.rules.specs.Station.{most_cores};
 ghost use Rattle.wrap.specs.Front.{Front};
 ghost use Rattle.wrap.specs.Holding.{holding_by, told_by, told_if, held_front, held_now};
 
-use crate::holder::{Held, holder_at};
+use crate::holder::holder_at;
 use rules::{GRAINS, Refusal, SLOTS, State};
 
 // Who holds a core: a slot, until a grain; nobody, until the grain at which slice 0 ends; or nobody, without a limit.
@@ -23,12 +23,12 @@ fn held(state: State, end: u64, shares: &[u32], core: u64) -> Holder
     let row = shares.first_chunk::<SLOTS>().unwrap();
     let slice = GRAINS * (end - state.start);
     let grain = GRAINS * (state.clock - state.start);
-    match holder_at(row, slice, core, grain) {
-        Some(Held { slot, after }) => Holder::Held {
-            slot,
-            until: GRAINS * state.start + after,
-        },
-        None => Holder::IdleUntil(GRAINS * end),
+    let Some(held) = holder_at(row, slice, core, grain) else {
+        return Holder::IdleUntil(GRAINS * end);
+    };
+    Holder::Held {
+        slot: held.slot,
+        until: GRAINS * state.start + held.after,
     }
 }
 

@@ -7,19 +7,19 @@ use Rattle.wrap.specs.Holding.{held_front}
 use Rattle.wrap.proofs.Looking.{found_by}
 use Rattle.wrap.proofs.look.held.Goals as goal
 
-pub returns-in-None : goal.returns-in-None
+pub returns-in_default : goal.returns-in_default
 unfolding held_front
-returns-in-None c =
+returns-in_default c =
     let row = (rw c.unwrap-row.ensures at c.first_chunk.ensures.cases).same in
-    rw row at (c.in-None.ensures (grains c.args.state.start) (idle_until (grains c.args.end)))
+    rw row at (c.in_default.ensures (grains c.args.state.start) (idle_until (grains c.args.end)))
 
 pub overflow_add-result : goal.overflow_add-result
 overflow_add-result c =
     let row = (rw c.unwrap-row.ensures at c.first_chunk.ensures.cases).same in
-    omega (arith, c.requires.front, found_by c.requires.front c.args.core c.in-Some.field-0.slot c.in-Some.field-0.after (rw row at c.in-Some.ensures))
+    omega (arith, c.requires.front, found_by c.requires.front c.args.core c.in-Some.held.slot c.in-Some.held.after (rw row at c.in-Some.ensures))
 
-pub returns-in-Some : goal.returns-in-Some
+pub returns : goal.returns
 unfolding held_front
-returns-in-Some c =
+returns c =
     let row = (rw c.unwrap-row.ensures at c.first_chunk.ensures.cases).same in
     rw row at (c.in-Some.ensures (grains c.args.state.start) (idle_until (grains c.args.end)))
