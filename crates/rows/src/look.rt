@@ -80,6 +80,7 @@ pub fn look(
     let mut sum: u32 = 0;
     let mut owed: u32 = 0;
     let mut hits: u32 = 0;
+    // One place in all three rows and no zip: the library has no law of a zip of three.
     for (i, &share) in row.iter().enumerate() {
         over = with_share(over, share, due[i], end, most);
         sum = sum.wrapping_add(share);

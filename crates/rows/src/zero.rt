@@ -27,6 +27,7 @@ pub fn four_zero(a: &[u32], b: &[u32], c: &[u32], d: &[u32]) -> bool
         (sum a.now + sum b.now + (sum c.now + sum d.now)) 0 }
 {
     let mut seen: u32 = 0;
+    // One place in all four parts and no zip: the library has no law of a zip of four.
     for (i, &word) in a.iter().enumerate() {
         seen = joined(seen, joined_four(word, b[i], c[i], d[i]));
     }
