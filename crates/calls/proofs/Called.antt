@@ -62,10 +62,6 @@ module _ (p : Planner) (w : List ℕ) {u : Result (Unit {0}) Refusal} (found : u
 
 -- by its number
 module _ (p : Planner) (w : List ℕ) (call : Call) where
-  pub number-unsound : is_sound_in p w ≡ false → 1 ≡ number_for p w call
-  unfolding number_for
-  number-unsound bad = rw bad
-
   number-sound : number_for p w call ≡ 0 → is_sound_in p w ≡ true
   unfolding number_for
   number-sound z = by_bool (is_sound_in p w) (λ e. e) (λ e. let one : ◌≡◌ {A = ℕ} 1 0 = rw e at z in absurd (omega arith))

@@ -129,6 +129,3 @@ pub first-end : (lists : List ℕ) → get_or lists 0 0 ≡ get_or (ends_of list
 unfolding ends_of
 first-end lists = sym (get_or-take row_count lists 0 0 (lit< tt))
 
--- the lists with the boundaries back are as long as they were
-pub lent_length : (lists ends : List ℕ) → length lists ≡ list_words → length ends ≡ row_count → length (ends ++ drop tasks_from lists) ≡ list_words
-lent_length lists ends long wide = simp (length-append, length-drop) (omega arith)

@@ -1,6 +1,5 @@
 pub mod Joint
 pub mod Called
-pub mod Among
 pub mod Reasons
 pub mod Slotted
 pub mod Opening

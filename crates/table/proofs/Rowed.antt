@@ -7,11 +7,9 @@ use native.Mathlib.Nat.{not-suc-le-zero, le_of_suc-le-suc}
 use native.Mathlib.Omega.{arith}
 use lib.Dec.{lit≤}
 use lib.ListN.{length, take, drop, get_or, set, length-take, length-drop, length-append, take-append-drop}
-use lib.Seq.{take_at, drop_at, take-add, drop-drop, length-take-le, take-take, set-get_or, get_or-set_other, get_or-take, get_or-drop}
+use lib.Seq.{take_at, drop_at, take-add, drop-drop, length-take-le, take-take, set-get_or, get_or-set_other}
 use borrow.Rule.Slice.PartMut.{put_mid, same_len_mid}
-use Rattle.rules.specs.Slices.{less}
 use Rattle.rules.specs.Words.{rows_of, row_at, flat, Rowed}
-use Rattle.rules.proofs.Lessened.{less-length}
 
 -- the words from n on of the first n + m
 pub drop-take : (n m : ℕ) (w : List ℕ) → n ≤ length w → drop n (take (n + m) w) ≡ take m (drop n w)
@@ -108,13 +106,6 @@ module _ (v : List ℕ) (room : 4096 ≤ length v) (k : ℕ) (h : suc k < 64) wh
       let next : 64 * k + 64 ≡ 64 * suc k = omega arith in
       drop-take 64 64 (drop (64 * k) v) (simp length-drop (omega arith)) ∙ rw (drop-drop 64 (64 * k) v, next) (row_part (suc k) 64 v refl h)
 
-  -- no word of the first is more than that of the second
-  pub two_below : (m : ℕ) → m ≡ 128 → ((i : ℕ) → get_or (row_at k v) i 0 ≤ get_or (row_at (suc k) v) i 0)
-      → (length (take m (drop (64 * k) v)) ≡ 128) × ((i : ℕ) → i < 64 → get_or (take m (drop (64 * k) v)) i 0 ≤ get_or (take m (drop (64 * k) v)) (64 + i) 0)
-  two_below m is below =
-      let part = take 128 (drop (64 * k) v) in
-      rw is (length-take-le 128 (drop (64 * k) v) (simp length-drop (omega arith)), λ i l. omega (arith, below i, sym (get_or-take 64 part i 0 l) ∙ ap (λ r. get_or r i 0) two_first, sym (get_or-drop 64 part i 0) ∙ ap (λ r. get_or r i 0) two_second))
-
 -- What a routine on a part makes of the table v, from what it promises of the part. m is the part's length as the borrow checker
 -- writes it, `e - a`.
 module _ (v : List ℕ) (room : 4096 ≤ length v) (k m : ℕ) (ys : List ℕ) (kept : length ys ≡ length (take m (drop (64 * k) v))) where
@@ -152,20 +143,6 @@ module _ (v : List ℕ) (room : 4096 ≤ length v) (k m : ℕ) (ys : List ℕ) (
     row_down got =
         let first : take 64 (take 128 (drop (64 * k) v)) ≡ row_at k v = two_first v room k h in
         let r = twice (row_at k v) (length_row k v (omega arith) room) (rw (is, first) at got) in
-        record { rows = r.rows ∙ rw (set-get_or (rows_of 64 v) k []); past = r.past }
-
-    -- the first was taken from the second
-    pub row_less : ys ≡ take 64 (take m (drop (64 * k) v)) ++ less (λ i. get_or (take 64 (take m (drop (64 * k) v))) i 0) 0 (drop 64 (take m (drop (64 * k) v)))
-        → Rowed v (set (rows_of 64 v) (suc k) (less (λ i. get_or (row_at k v) i 0) 0 (row_at (suc k) v))) (put_mid (64 * k) m v ys)
-    unfolding row_at
-    row_less got =
-        let x = row_at k v in
-        let y = less (λ i. get_or x i 0) 0 (row_at (suc k) v) in
-        let first = two_first v room k h in
-        let second = two_second v room k h in
-        let made : ys ≡ x ++ y = rw (is, first, second) at got in
-        let long : length y ≡ 64 = less-length (λ i. get_or x i 0) 0 (row_at (suc k) v) ∙ length_row (suc k) v h room in
-        let r = apart x y (length_row k v (omega arith) room) long made in
         record { rows = r.rows ∙ rw (set-get_or (rows_of 64 v) k []); past = r.past }
 
 -- A table v cut where row k begins: row k is the first 64 of the words behind the cut.
