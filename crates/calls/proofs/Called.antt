@@ -46,6 +46,16 @@ module _ {p : Planner} {w : List ℕ} (ok : is_sound_in p w ≡ true) (a : Agree
   unfolding called step decided
   called-done e = rw (ok, e)
 
+-- by what a test of the reasons answered: that there is none, or which it is
+module _ {n : ℕ} {u : Result (Unit {0}) Refusal} (found : verdict u ≡ n) where
+  pub none-is : {y : Unit {0}} → u ≡ Ok y → n ≡ 0
+  unfolding verdict
+  none-is is = sym found ∙ rw is
+
+  pub one-is : {x : Refusal} → u ≡ Err x → number_of x ≡ n
+  unfolding verdict
+  one-is is = rw is at found
+
 -- what the check answers
 module _ (p : Planner) (w : List ℕ) {u : Result (Unit {0}) Refusal} (found : u ≡ cond (is_sound_in p w) (Ok tt) (Err NotSound)) where
   pub unchecked : {x : Refusal} → u ≡ Err x → (is_sound_in p w ≡ false) × (x ≡ NotSound)

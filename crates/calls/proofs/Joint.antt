@@ -5,7 +5,7 @@ use mathlib.Core.Bool.{Bool, true}
 use mathlib.Core.List.{List, [], ◌++◌}
 use Prim.Native.Nat.{ℕ, ◌≤◌}
 use native.Mathlib.Omega.{arith}
-use lib.ListN.{length, drop, get_or, length-append, length-drop}
+use lib.ListN.{length, drop, get_or}
 use lib.Dec.{lit<}
 use lib.Seq.{length-take-le, get_or-take}
 use borrow.Author.Tests.{leb-true, eqb-true}
@@ -15,7 +15,7 @@ use Rattle.rules.specs.Sound.{is_sound}
 use Rattle.rules.specs.Calls.{Answer as Handed, Outcome}
 use Rattle.rules.specs.Words.{words_of, written, segments_flat}
 use Rattle.rules.specs.Wrap.{Segment}
-use Rattle.rules.specs.Held.{Planner, planner, planner_of, state_of, table_of, table_at, is_sound_in, is_sound_at, used_of, ends_in, tasks_flat, ends_of, tasks_of, list_words, tasks_from}
+use Rattle.rules.specs.Held.{Planner, planner, planner_of, state_of, table_of, table_at, is_sound_in, is_sound_at, used_of, ends_in, tasks_flat, ends_of, tasks_of, list_words}
 use Rattle.rules.proofs.Held.{lists_exact}
 use Rattle.rules.proofs.Floor.{by_bool}
 use Rattle.rules.proofs.Sound.{every-to, sound-to}
@@ -128,4 +128,3 @@ module _ {p : Planner} {w : List ℕ} (a : Agrees p w) where
 pub first-end : (lists : List ℕ) → get_or lists 0 0 ≡ get_or (ends_of lists) 0 0
 unfolding ends_of
 first-end lists = sym (get_or-take row_count lists 0 0 (lit< tt))
-
