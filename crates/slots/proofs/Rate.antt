@@ -66,7 +66,7 @@ lawful-rate p c r some = same_bool _ _ to from
         let most = mul-le-mul_right p small in
         (and-eq-true_iff _ _).1 (le-leb 1 c (omega arith), (and-eq-true_iff _ _).1 (le-leb c (1000 * p) (omega arith), (and-eq-true_iff _ _).1 (eq-eqb r (rate_of p c) (rate-to p c r some more (omega arith) reached), refl)))
 
--- the same for a task that is in use with a period of at most 60,000
+-- a slot is in use with a lawful task exactly where the tests that the code makes hold, grouped as it makes them
 pub lawful_is : (k : Task) → (in_use k && lawful_test k) ≡ ((((leb 1 k.period && leb k.period 60000) && leb 1 k.rate) && leb k.rate 1000) && (leb k.cost (k.rate * k.period) && ltb (k.rate * k.period - k.period) k.cost))
 unfolding lawful_test in_use every
 lawful_is k =
