@@ -8,13 +8,6 @@ use borrow.Author.Tests.{eq-eqb, eqb-true}
 use lib.Bits.{bit_or, or_add_and, and_le_l, and_le_r}
 use lib.Dec.{eqb}
 
--- code computes `a && b` by a branch on a, which leaves b or a
-pub and_then : (a b : Bool) {t : Bool} → a ≡ true → t ≡ b → t ≡ (a && b)
-and_then a b holds is = rw holds is
-
-pub and_else : (a b : Bool) {t : Bool} → a ≡ false → t ≡ a → t ≡ (a && b)
-and_else a b fails is = rw fails (is ∙ fails)
-
 -- four tests in another order
 pub cross : (a b c d : Bool) → ((a && b) && (c && d)) ≡ ((a && c) && (b && d))
 cross false b c d = refl

@@ -65,12 +65,6 @@ pub not_within : (start : ℕ) (due rates : List ℕ) (lo end : ℕ) (row : List
 unfolding slice_check slice_hits slice_at
 not_within start due rates lo end row h = (rw h, rw h)
 
--- the sum of a row counts only where each share fits
-pub sum_counts : (fits : Bool) (a b long owed hits : ℕ) → (fits ≡ true → a ≡ b) → row_test fits a long owed hits ≡ row_test fits b long owed hits
-unfolding row_test every
-sum_counts true a b long owed hits h = rw (h refl)
-sum_counts false a b long owed hits h = refl
-
 pub sum_given : (fits : Bool) (total long owed hits : ℕ) {sum : Option ℕ} → sum ≡ (if fits then Some total else None) → row_test (is_some sum) (unwrap_or sum 0) long owed hits ≡ row_test fits total long owed hits
 unfolding row_test every
 sum_given true total long owed hits is = rw is
@@ -82,8 +76,3 @@ unfolding sum
 zero-all [] = refl
 zero-all (word ∷ words) = rw (zero-all words, sum_zero word (sum words))
 
-pub zero_next : (ok : Bool) (words : List ℕ) (k : ℕ) → k < length words → ((ok && eqb (get_or words k 0) 0) && eqb (sum (drop (k + 1) words)) 0) ≡ (ok && eqb (sum (drop k words)) 0)
-zero_next ok words k h = rw (sum-next words k h, sum_zero (get_or words k 0) (sum (drop (k + 1) words))) (and_assoc ok _ _)
-
-pub zero_done : (ok : Bool) (words : List ℕ) (k : ℕ) → length words ≤ k → (ok && eqb (sum (drop k words)) 0) ≡ ok
-zero_done ok words k h = rw (sum_done words k h) (and-true ok)
