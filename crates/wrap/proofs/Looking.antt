@@ -1,6 +1,6 @@
--- What a look at slice 0 finds is what the rules answer, and no segment ends after the slice, so its end can be told in grains.
+-- What a look at slice 0 finds can be told in grains: no segment ends after the slice.
 -- The answer is the first segment that holds the core, so a bound of all segments' ends is a bound of it.
-use mathlib.Core.Path.{◌≡◌, sym}
+use mathlib.Core.Path.{◌≡◌}
 use mathlib.Core.List.{List, [], ◌∷◌}
 use Prim.Native.Nat.{ℕ, suc, ◌+◌, ◌-◌, ◌≤◌, ◌<◌}
 use native.Mathlib.Omega.{arith}
@@ -9,11 +9,7 @@ use Rattle.rules.specs.Station.{grains, slot_count}
 use Rattle.rules.specs.Wrap.{Segment, wrap, on_core, on_next, holds}
 use Rattle.rules.specs.Advance.{Holding, held, idle_until, idle, held_in}
 use Rattle.rules.proofs.Floor.{by_bool, parts}
-use Rattle.wrap.specs.declared.holder.Found.{Found}
-use Rattle.wrap.specs.declared.holder.Found.TheVariants.{Held}
-use Rattle.wrap.specs.Found.{holding_of}
 use Rattle.wrap.specs.Front.{Front}
-use Rattle.wrap.specs.Holding.{held_front}
 
 -- a segment that holds a core ends by a grain
 abbrev Ends : ℕ → Holding → Type 0
@@ -42,17 +38,13 @@ module _ (base core grain : ℕ) (none : Holding) (T : ℕ) (some : 0 < T) (idle
       let rest = wrap T (suc slot) (e + s) ss in
       ends_one (on_core T slot e s) (on_next T slot e s ∷ rest) (core_by T slot e s) (ends_one (on_next T slot e s) rest (next_by T some slot e s (small 0)) (ends_by (suc slot) (e + s) ss (λ i. small (suc i))))
 
--- what a look at slice 0 finds
-module _ {start clock end : ℕ} {w : List ℕ} (f : Front start clock end w) (core : ℕ) (found : Found)
-    (is : (base : ℕ) (none : Holding) → holding_of base none found ≡ held_in base core (grains (clock - start)) none (wrap (grains (end - start)) 0 0 (take slot_count w))) where
-  pub found-holds : held_front start clock end w core ≡ holding_of (grains start) (idle_until (grains end)) found
-  unfolding held_front
-  found-holds = sym (is (grains start) (idle_until (grains end)))
-
-  pub found_by : (slot after : ℕ) → found ≡ Held slot after → after ≤ grains (end - start)
-  found_by slot after e =
+-- a look at slice 0 that finds a slot, with a segment's end
+module _ {start clock end : ℕ} {w : List ℕ} (f : Front start clock end w) (core slot after : ℕ)
+    (is : (base : ℕ) (none : Holding) → held slot (base + after) ≡ held_in base core (grains (clock - start)) none (wrap (grains (end - start)) 0 0 (take slot_count w))) where
+  pub found_by : after ≤ grains (end - start)
+  found_by =
       let T = grains (end - start) in
       let laid = f.laid in
       let all = ends_by 0 core (grains (clock - start)) idle T laid.some tt 0 0 (take slot_count w) laid.small in
-      let here : 0 + after ≤ 0 + T = rw (← (is 0 idle), e) at all in
+      let here : 0 + after ≤ 0 + T = rw (← (is 0 idle)) at all in
       omega arith

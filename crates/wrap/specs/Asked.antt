@@ -1,7 +1,7 @@
 -- What the routines on the wrap ask of slice 0, of a window on it, and of a segment buffer.
-use Rattle.std.specs.Prelude.{◌≡◌, List, ℕ, ◌<◌, ◌≤◌, length, get_or}
+use Rattle.std.specs.Prelude.{List, ℕ, ◌<◌, ◌≤◌, length, get_or}
 use Rattle.rules.specs.Calls.{segment_words}
-use Rattle.rules.specs.Station.{grains, last_tick, longest_period, slot_count}
+use Rattle.rules.specs.Station.{grains, last_tick, longest_period}
 use Rattle.wrap.specs.declared.segments.Window.{Window}
 
 -- Slice 0, of T grains, and its row. A slice is no longer than a period, and "each share is at most 1,000 times its slice's length".
@@ -9,7 +9,6 @@ pub record Laid (T : ℕ) (row : List ℕ) : Type 0 where
   pub some : 0 < T
   pub most : T ≤ grains longest_period
   pub small : (i : ℕ) → get_or row i 0 ≤ T
-  pub long : length row ≡ slot_count
 
 -- A window on slice 0, of T grains.
 pub record Shown (T : ℕ) (w : Window) : Type 0 where

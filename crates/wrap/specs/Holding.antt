@@ -1,23 +1,27 @@
 -- What holder answers, by document 01's number and its three cases.
-use Rattle.std.specs.Prelude.{cond, List, ℕ, zero, suc, ◌-◌, eqb, take}
+use Rattle.std.specs.Prelude.{cond, List, ℕ, zero, suc, ◌-◌, eqb, take, Result, Ok, Err}
+use Rattle.rules.specs.declared.Refusal.{Refusal}
+use Rattle.rules.specs.Numbers.{number_of}
 use Rattle.rules.specs.Station.{grains, slot_count}
 use Rattle.rules.specs.Wrap.{wrap}
 use Rattle.rules.specs.Advance.{Holding, held, idle_until, idle, held_in}
 use Rattle.wrap.specs.declared.look.Holder.{Holder}
-use Rattle.wrap.specs.declared.look.Holder.TheVariants.{Held, IdleUntil, Idle, Refused}
+use Rattle.wrap.specs.declared.look.Holder.TheVariants.{Held, IdleUntil, Idle}
 
 -- a refusal's number, or 0, and who holds the core
 pub record Told : Type 0 where
   pub number : ℕ
   pub holding : Holding
 
--- (a refusal's number is above 0: `Refused` with 0 reads as no answer of document 01)
-unfoldable pub told_by : Holder → Told
-told_by (Held slot until) = record { number = 0; holding = held slot until }
-told_by (IdleUntil grain) = record { number = 0; holding = idle_until grain }
-told_by Idle = record { number = 0; holding = idle }
-told_by (Refused zero) = record { number = 1; holding = idle_until 0 }
-told_by (Refused (suc n)) = record { number = suc n; holding = idle }
+-- of an answer that is no refusal
+abbrev pub holding_by : Holder → Holding
+holding_by (Held slot until) = held slot until
+holding_by (IdleUntil grain) = idle_until grain
+holding_by Idle = idle
+
+unfoldable pub told_by : Result Holder Refusal → Told
+told_by (Ok h) = record { number = 0; holding = holding_by h }
+told_by (Err r) = record { number = number_of r; holding = idle }
 
 unfoldable pub told_if : ℕ → Holding → Told
 told_if zero h = record { number = 0; holding = h }

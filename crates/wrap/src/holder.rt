@@ -1,31 +1,22 @@
-ghost use Rattle.std.specs.Prelude.{◌≡◌, ℕ, min, ◌-◌, ◌<◌, ◌≤◌};
+ghost use Rattle.std.specs.Prelude.{◌≡◌, ℕ, ◌<◌};
 ghost use Rattle.rules.specs.Station.{most_cores};
 ghost use Rattle.rules.specs.Wrap.{wrap};
 ghost use Rattle.rules.specs.Advance.{Holding, held_in};
 ghost use Rattle.wrap.specs.Asked.{Laid};
 ghost use Rattle.wrap.specs.Found.{holding_of};
 
-use rows::word::{smaller, wide};
 use rules::SLOTS;
 
-// Who holds a core in a grain: a slot, with the grain after the last of its segment, in grains after the plan start.
+// A slot that holds a core, with the grain after the last of its segment, in grains after the plan start.
 #[derive(Clone, Copy)]
-pub enum Found {
-    Held(u64, u64),
-    Nobody,
+pub struct Held {
+    pub slot: u64,
+    pub after: u64,
 }
 
-// The slot whose share ends at `end` holds the core whose stretch begins at `begin` as far as its share or the stretch
-// goes.
-fn found_in(slot: usize, end: u64, begin: u64, slice: u64) -> Found
-    requires { begin ≤ end }
-    ensures { result ≡ Found.Held slot (min (end - begin) slice) }
-{
-    Found::Held(slot as u64, smaller(end - begin, slice))
-}
-
-// Who holds a core, `grain` grains after the plan start: the first slot whose share ends past that place on the line.
-pub fn holder_at(row: &[u32], slice: u64, core: u64, grain: u64) -> Found
+// Who holds a core, `grain` grains after the plan start: the first slot whose share ends past that place on the line,
+// as far as its share or the core's stretch goes.
+pub fn holder_at(row: &[u32; SLOTS], slice: u64, core: u64, grain: u64) -> Option<Held>
     requires laid { Laid slice row.now }
     requires grain_lt_slice { grain < slice }
     requires core_lt_most_cores { core < most_cores }
@@ -35,12 +26,14 @@ pub fn holder_at(row: &[u32], slice: u64, core: u64, grain: u64) -> Found
     let begin = core * slice;
     let place = begin + grain;
     let mut end: u64 = 0;
-    for slot in 0..SLOTS {
-        end += wide(row[slot]);
-        let here = place < end;
-        if here {
-            return found_in(slot, end, begin, slice);
+    for (slot, &share) in row.iter().enumerate() {
+        end += u64::from(share);
+        if place < end {
+            return Some(Held {
+                slot: slot as u64,
+                after: (end - begin).min(slice),
+            });
         }
     }
-    Found::Nobody
+    None
 }

@@ -1,4 +1,4 @@
-ghost use Rattle.std.specs.Prelude.{◌≡◌, [], ◌∷◌, max, ◌-◌, ◌+◌, ◌*◌, ◌≤◌, length};
+ghost use Rattle.std.specs.Prelude.{◌≡◌, [], ◌∷◌, ◌+◌, ◌*◌, ◌≤◌, length};
 ghost use Rattle.rules.specs.Station.{grains, longest_period, most_cores, sum};
 ghost use Rattle.rules.specs.Wrap.{on_core, on_next, kept, clip};
 ghost use Rattle.rules.specs.Words.{written};
@@ -8,7 +8,6 @@ ghost use Rattle.wrap.specs.Asked.{Laid, Shown, Room};
 ghost use Rattle.wrap.specs.Shown.{Looks, segment_of, window_of, slot_shown, shown_in, written_from, Wrote};
 
 use line::place::{Place, beyond};
-use rows::word::{smaller, wide};
 use rules::SLOTS;
 
 // A segment: the core, the slot that holds it, the first grain, and the grain after the last.
@@ -28,19 +27,6 @@ pub struct Window {
     pub to: u64,
 }
 
-fn later(a: u64, b: u64) -> u64
-    ensures { result ≡ max a b }
-{
-    if a < b { b } else { a }
-}
-
-// How far a grain lies past another, or 0.
-fn past(grain: u64, end: u64) -> u64
-    ensures { result ≡ grain - end }
-{
-    if grain < end { 0 } else { grain - end }
-}
-
 // A slot's segment on the core where its stretch of the line begins.
 fn on_core(slot: usize, place: Place, share: u64, slice: u64) -> Segment
     requires { Step slice place share }
@@ -51,7 +37,7 @@ fn on_core(slot: usize, place: Place, share: u64, slice: u64) -> Segment
         core: place.core,
         slot: slot as u64,
         first: place.at,
-        after: smaller(place.at + share, slice),
+        after: (place.at + share).min(slice),
     }
 }
 
@@ -65,34 +51,33 @@ fn on_next(slot: usize, place: Place, share: u64, slice: u64) -> Segment
         core: place.core + 1,
         slot: slot as u64,
         first: 0,
-        after: past(place.at + share, slice),
+        after: (place.at + share).saturating_sub(slice),
     }
 }
 
 // A segment as far as it lies in the window, counted from grain 0.
+#[tactic(auto, unfolding(crate::specs::Shown::segment_of, crate::specs::Shown::window_of, rules::specs::Wrap::kept))]
 fn within(segment: Segment, window: Window) -> Segment
     requires looks { Looks window }
     requires first_bound { segment.first ≤ grains longest_period }
     ensures { segment_of result ≡ kept (window_of window) (segment_of segment) }
 {
     Segment {
-        core: segment.core,
-        slot: segment.slot,
-        first: window.base + later(segment.first, window.from),
-        after: window.base + smaller(segment.after, window.to),
+        first: window.base + segment.first.max(window.from),
+        after: window.base + segment.after.min(window.to),
+        ..segment
     }
 }
 
 // Four words after the first `count` segments.
+#[tactic(auto, unfolding(crate::specs::Shown::segment_of, crate::specs::Shown::written_from, rules::specs::Words::segments_flat))]
 fn write(segment: Segment, buffer: &mut [u64], count: usize)
     requires { Room buffer.old count }
     ensures { buffer.new ≡ written_from count (segment_of segment ∷ []) buffer.old }
 {
     let at = 4 * count;
-    buffer[at] = segment.core;
-    buffer[at + 1] = segment.slot;
-    buffer[at + 2] = segment.first;
-    buffer[at + 3] = segment.after;
+    let words = [segment.core, segment.slot, segment.first, segment.after];
+    buffer[at..at + 4].copy_from_slice(&words);
 }
 
 // What the window shows of a segment is written after the first `count`. "Empty segments don't exist." Hands back the
@@ -134,8 +119,9 @@ fn lay(
     put(on_next(slot, place, share, slice), window, buffer, more)
 }
 
-// The segments that a window shows, written to the buffer in the order along the line. Hands back their count.
-pub fn segments(row: &[u32], slice: u64, window: Window, buffer: &mut [u64]) -> usize
+// The segments that a window shows, written to the buffer in the order along the line. Hands back their count. The
+// buffer is lent by the station and has a fixed size, so what stands in it is told by a count beside it.
+pub fn segments(row: &[u32; SLOTS], slice: u64, window: Window, buffer: &mut [u64]) -> usize
     requires laid { Laid slice row.now }
     requires shown { Shown slice window }
     requires segment_words_in_bounds { segment_words ≤ length buffer.old }
@@ -144,9 +130,9 @@ pub fn segments(row: &[u32], slice: u64, window: Window, buffer: &mut [u64]) -> 
     ensures buffer_after { buffer.new ≡ written (shown_in window slice row.now) buffer.old }
 {
     let mut place = Place { core: 0, at: 0 };
-    let mut count: usize = 0;
-    for slot in 0..SLOTS {
-        let share = wide(row[slot]);
+    let mut count = 0;
+    for (slot, &share) in row.iter().enumerate() {
+        let share = u64::from(share);
         count = lay(slot, place, share, slice, window, buffer, count);
         place = beyond(place, share, slice);
     }

@@ -22,6 +22,6 @@ pub fn show(state: State, shares: &[u32], end: u64, to: u64, buffer: &mut [u64])
         to: GRAINS * (to - state.start),
     };
     let slice = GRAINS * (end - state.start);
-    let n = segments(&shares[0..SLOTS], slice, window, buffer);
-    n as u64
+    let row = shares.first_chunk::<SLOTS>().unwrap();
+    segments(row, slice, window, buffer) as u64
 }

@@ -14,12 +14,11 @@ overflow_add-place c = omega (arith, mul-le-mul_left c.args.core c.requires.laid
 pub loop-slot-init : goal.loop-slot-init
 loop-slot-init c = record { within = omega arith; small = omega arith; before = omega arith; left = left-all _ _ _ _ }
 
-pub returns-then-here : goal.returns-then-here
-returns-then-here c =
+pub returns-then-place-end : goal.returns-then-place-end
+returns-then-place-end c =
     let k = c.loop-slot in
-    let share = c.wide-end.ensures.value in
-    rw c.found_in.ensures
-    (left_here k.invariant.left c.requires.laid.some (omega arith) share c.requires.grain_lt_slice (omega (arith, c.requires.laid.small k.slot)) k.invariant.before (omega arith))
+    rw c.min.ensures
+    (left_here k.invariant.left c.requires.laid.some (omega arith) c.from-end.ensures c.requires.grain_lt_slice (omega (arith, c.requires.laid.small k.slot)) k.invariant.before (omega arith))
 
 pub loop-slot-preserved : goal.loop-slot-preserved
 loop-slot-preserved c =
@@ -28,7 +27,7 @@ loop-slot-preserved c =
       within = omega arith;
       small = omega arith;
       before = omega arith;
-      left = left_later k.invariant.left c.requires.laid.some (omega arith) c.wide-end.ensures.value (omega arith);
+      left = left_later k.invariant.left c.requires.laid.some (omega arith) c.from-end.ensures (omega arith);
     }
 
 pub returns : goal.returns

@@ -1,7 +1,7 @@
 -- `holder_at` finds who holds a core in a grain: as long as the shares end at or before that place on the line, the slots left decide.
 -- The first whose share ends past it holds the core, and after the last slot nobody does.
 use mathlib.Core.List.{List}
-use Prim.Native.Nat.{ℕ, ◌+◌, ◌-◌, ◌*◌, ◌≤◌}
+use Prim.Native.Nat.{ℕ, ◌+◌, ◌*◌, ◌≤◌}
 use Rattle.rules.specs.Station.{slot_count}
 use Rattle.wrap.proofs.Holds.{Left}
 use Rattle.wrap.proofs.holder.holder_at.Given as goal
@@ -14,6 +14,3 @@ pub record Seeking (row : List ℕ) (T core grain end slot : ℕ) : Type 0 where
 
 abbrev pub invariant-loop-slot : goal.invariant-loop-slot
 invariant-loop-slot l = Seeking l.row l.slice l.core l.grain l.end l.slot
-
-abbrev pub decreases-loop-slot : goal.decreases-loop-slot
-decreases-loop-slot l = slot_count - l.slot

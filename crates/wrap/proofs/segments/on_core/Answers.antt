@@ -10,6 +10,6 @@ unfolding segment_of
 returns c =
     let at = c.args in
     record {
-      value = rw (line-core {T = at.slice} at.place (omega arith) at.slot at.share, c.smaller.ensures);
+      value = rw (line-core {T = at.slice} at.place (omega arith) at.slot at.share, c.min.ensures);
       first_le_slice = omega arith;
     }

@@ -10,6 +10,6 @@ unfolding segment_of
 returns c =
     let at = c.args in
     record {
-      value = rw (line-next {T = at.slice} at.place (omega arith) at.slot at.share, c.past.ensures);
+      value = rw (line-next {T = at.slice} at.place (omega arith) at.slot at.share, c.saturating_sub.ensures);
       first_le_slice = omega arith;
     }

@@ -27,7 +27,7 @@ loop-slot-init c =
 pub lay-count-requires : goal.lay-count-requires
 lay-count-requires c =
     let k = c.loop-slot in
-    omega (arith, c.requires.laid.small k.slot, rest_few k.invariant.rest (omega arith) c.wide-share.ensures.value)
+    omega (arith, c.requires.laid.small k.slot, rest_few k.invariant.rest (omega arith) c.from-share.ensures)
 
 pub beyond-place-requires : goal.beyond-place-requires
 beyond-place-requires c =
@@ -37,7 +37,7 @@ beyond-place-requires c =
 pub loop-slot-preserved : goal.loop-slot-preserved
 loop-slot-preserved c =
     let k = c.loop-slot in
-    let share = c.wide-share in
+    let share = c.from-share in
     let lay = c.lay-count in
     record {
       within = omega arith;
@@ -45,7 +45,7 @@ loop-slot-preserved c =
       few = k.invariant.few;
       inside = omega arith;
       far = omega arith;
-      rest = rw c.beyond-place.ensures.is (rest_more k.invariant.rest (omega arith) share.ensures.value lay.ensures (omega arith));
+      rest = rw c.beyond-place.ensures.is (rest_more k.invariant.rest (omega arith) share.ensures lay.ensures (omega arith));
     }
 
 pub returns : goal.returns

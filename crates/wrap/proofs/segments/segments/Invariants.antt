@@ -2,7 +2,7 @@
 -- At most 79 exist, so there is room for each slot's.
 use mathlib.Core.Path.{◌≡◌}
 use mathlib.Core.List.{List}
-use Prim.Native.Nat.{ℕ, ◌-◌, ◌<◌, ◌≤◌}
+use Prim.Native.Nat.{ℕ, ◌<◌, ◌≤◌}
 use lib.ListN.{length}
 use Rattle.rules.specs.Station.{slot_count}
 use Rattle.rules.specs.Wrap.{Segment, Window}
@@ -24,6 +24,3 @@ pub record Showing (T : ℕ) (w : Window) (row : List ℕ) (gs : List Segment) (
 abbrev pub invariant-loop-slot : goal.invariant-loop-slot
 invariant-loop-slot l =
     Showing l.slice (window_of l.window) l.row (shown_in l.window l.slice l.row) l.initial.buffer l.slot l.place l.count l.buffer
-
-abbrev pub decreases-loop-slot : goal.decreases-loop-slot
-decreases-loop-slot l = slot_count - l.slot

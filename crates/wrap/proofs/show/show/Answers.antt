@@ -3,11 +3,12 @@
 use native.Mathlib.Omega.{arith}
 use Rattle.wrap.proofs.show.show.Goals as goal
 
-pub segments-n-requires : goal.segments-n-requires
-segments-n-requires c =
+pub segments-requires : goal.segments-requires
+segments-requires c =
+    let row = (rw c.unwrap-row.ensures at c.first_chunk.ensures.cases).same in
     record {
-      laid = c.requires.front.laid;
+      laid = rw row c.requires.front.laid;
       shown = omega arith;
       segment_words_in_bounds = omega arith;
-      row_bound = c.requires.front.fits;
+      row_bound = rw row c.requires.front.fits;
     }
