@@ -49,12 +49,12 @@ module _ {p : Planner} {w : List ℕ} (ok : is_sound_in p w ≡ true) (a : Agree
 
 -- what the check answers
 module _ (p : Planner) (w : List ℕ) {u : Result (Unit {0}) Refusal} (found : u ≡ cond (is_sound_in p w) (Ok tt) (Err NotSound)) where
-  pub unchecked : {x : Refusal} → u ≡ Err x → (is_sound_in p w ≡ false) × (u ≡ Err NotSound)
-  unchecked {x} is = by_bool (is_sound_in p w) (λ ok. let e : ◌≡◌ {A = Result (Unit {0}) Refusal} (Ok tt) (Err x) = sym (rw ok at found) ∙ is in cc) (λ bad. (bad, rw bad at found))
+  pub unchecked : {x : Refusal} → u ≡ Err x → (is_sound_in p w ≡ false) × (x ≡ NotSound)
+  unchecked {x} is = by_bool (is_sound_in p w) (λ ok. let e : ◌≡◌ {A = Result (Unit {0}) Refusal} (Ok tt) (Err x) = sym (rw ok at found) ∙ is in cc) (λ bad. let e : ◌≡◌ {A = Result (Unit {0}) Refusal} (Err x) (Err NotSound) = sym is ∙ rw bad at found in (bad, cc))
 
   pub number-unchecked : (call : Call) {x : Refusal} → u ≡ Err x → verdict u ≡ number_for p w call
   unfolding verdict number_of number_for
-  number-unchecked call is = let e = unchecked is in rw (e.1, e.0)
+  number-unchecked call is = let e = unchecked is in rw (is, e.1, e.0)
 
   pub checked-agrees : length p.lists ≡ list_words → {y : Unit {0}} → u ≡ Ok y → (is_sound_in p w ≡ true) × Agrees p w
   checked-agrees wide {y} is =

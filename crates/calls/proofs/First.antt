@@ -62,12 +62,11 @@ module _ {p : Planner} {w : List ℕ} (a : Agrees p w) (some : 0 < p.state.count
       let ahead = rw e at (first-ahead t sound) in
       let soon = rw e at r.soon in
       let small = rw e at r.small in
-      let columns = rw e at sound.columns in
       let fits = rw e at sound.fits in
       let from : p.state.start ≤ p.state.clock = sound.start in
       let after : p.state.clock < end = ahead.0 in
       let by : end ≤ p.state.start + longest_period = soon.0 in
-      let laid : Laid (grains (end - p.state.start)) (take 64 w) = record { some = omega arith; most = omega arith; small = small.0; long = columns.0 } in
+      let laid : Laid (grains (end - p.state.start)) (take 64 w) = record { some = omega arith; most = omega arith; small = small.0 } in
       record {
         long = a.long;
         begun = from;

@@ -12,7 +12,9 @@ use Rattle.rules.specs.Advance.{held_in, idle_in, holder_of}
 use Rattle.rules.specs.Calls.{withdraw, refused, holder_refusals, holder_number}
 use Rattle.rules.specs.Held.{Planner, table_of, table_at, is_sound_in, ends_of}
 use Rattle.rules.proofs.Floor.{by_eq}
-use Rattle.wrap.specs.declared.look.Holder.TheVariants.{Refused}
+use Rattle.std.proofs.Common.{Err}
+use Rattle.rules.specs.declared.Refusal.TheVariants.{NotSound}
+use Rattle.rules.specs.Numbers.{number_of}
 use Rattle.wrap.specs.Holding.{told_by, told_if, held_front, held_now}
 use Rattle.calls.specs.Called.{Agrees}
 use Rattle.calls.specs.Holding.{told}
@@ -20,8 +22,8 @@ use Rattle.calls.proofs.Called.{not-unsound}
 use Rattle.calls.proofs.First.{first_slice}
 use Rattle.calls.proofs.Onward.{none}
 
-pub told-unsound : (p : Planner) (w : List ℕ) (core : ℕ) → is_sound_in p w ≡ false → told_by (Refused 1) ≡ told p w core
-unfolding told told_by
+pub told-unsound : (p : Planner) (w : List ℕ) (core : ℕ) → is_sound_in p w ≡ false → told_by (Err NotSound) ≡ told p w core
+unfolding told told_by number_of
 told-unsound p w core bad = rw bad
 
 module _ {p : Planner} {w : List ℕ} (ok : is_sound_in p w ≡ true) (a : Agrees p w) (core : ℕ) where

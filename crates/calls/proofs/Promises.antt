@@ -3,7 +3,8 @@
 use mathlib.Core.Path.{◌≡◌, refl, ap, sym, ◌∙◌}
 use mathlib.Core.Bool.{true}
 use mathlib.Core.List.{List}
-use Prim.Native.Nat.{ℕ, zero, suc, ◌≤◌}
+use native.Mathlib.Nat.{not-suc-le-zero}
+use Prim.Native.Nat.{ℕ, zero, suc, ◌≤◌, ◌<◌}
 use native.Mathlib.Omega.{arith}
 use lib.ListN.{length, drop}
 use Rattle.rules.specs.Station.{Table, share_words}
@@ -16,60 +17,67 @@ use Rattle.rules.proofs.Sound.{sound-to}
 use Rattle.rules.proofs.Kept.{step-sound, opened-sound}
 use Rattle.rules.proofs.Steps.{accepted-number}
 use Rattle.wrap.specs.declared.look.Holder.{Holder}
-use Rattle.wrap.specs.declared.look.Holder.TheVariants.{Held, IdleUntil, Idle, Refused as Refused'}
-use Rattle.wrap.specs.Holding.{Told, told_by}
-use Rattle.calls.specs.declared.Answer.{Answer}
-use Rattle.calls.specs.declared.Answer.TheVariants.{Done, Refused}
-use Rattle.calls.specs.Called.{answer_of, Left, leaves, unchanged, held_as, called, opened_by, opening}
+use Rattle.wrap.specs.declared.look.Holder.TheVariants.{Held, IdleUntil, Idle}
+use Rattle.wrap.specs.Holding.{Told, holding_by, told_by}
+use Rattle.std.proofs.Common.{Result, Ok, Err}
+use Rattle.rules.specs.declared.Refusal.{Refusal}
+use Rattle.rules.specs.Numbers.{number_of}
+use Rattle.rules.proofs.Numbers.{number_some, number_one, numbered, numbered_back}
+use Rattle.calls.specs.declared.Done.{Done}
+use Rattle.calls.specs.Called.{did, answer_of, Left, leaves, unchanged, held_as, called, opened_by, opening}
 use Rattle.calls.proofs.Joint.{agrees, sound_there}
 use Rattle.calls.proofs.Called.{called-unsound, called-refused, called-done}
 use Rattle.calls.proofs.Round.{still-sound}
 
 -- no two answers read alike in document 01's numbers
-pub answer_one : (a b : Answer) → answer_of a ≡ answer_of b → a ≡ b
+pub answer_one : (a b : Result Done Refusal) → answer_of a ≡ answer_of b → a ≡ b
 unfolding answer_of refusal
-answer_one (Done v c) (Done w d) e = let x = ap (λ r. r.value) e in let y = ap (λ r. r.count) e in cc
-answer_one (Done v c) (Refused zero) e = let x : ◌≡◌ {A = ℕ} 0 1 = ap (λ r. r.number) e in absurd (omega arith)
-answer_one (Done v c) (Refused (suc n)) e = let x : 0 ≡ suc n = ap (λ r. r.number) e in absurd (omega arith)
-answer_one (Refused zero) (Done w d) e = let x : ◌≡◌ {A = ℕ} 1 0 = ap (λ r. r.number) e in absurd (omega arith)
-answer_one (Refused (suc n)) (Done w d) e = let x : suc n ≡ 0 = ap (λ r. r.number) e in absurd (omega arith)
-answer_one (Refused zero) (Refused zero) e = refl
-answer_one (Refused zero) (Refused (suc n)) e = let x : ◌≡◌ {A = ℕ} 1 0 = ap (λ r. r.value) e in absurd (omega arith)
-answer_one (Refused (suc n)) (Refused zero) e = let x : ◌≡◌ {A = ℕ} 0 1 = ap (λ r. r.value) e in absurd (omega arith)
-answer_one (Refused (suc n)) (Refused (suc m)) e = ap Refused (ap (λ r. r.number) e)
+answer_one (Ok d) (Ok e) same = let x = ap (λ r. r.value) same in let y = ap (λ r. r.count) same in let both : did d.value d.count ≡ did e.value e.count = rw (x, y) in both
+answer_one (Ok d) (Err r) same = let x : 0 ≡ number_of r = ap (λ r. r.number) same in absurd (omega (arith, number_some r))
+answer_one (Err r) (Ok d) same = let x : number_of r ≡ 0 = ap (λ r. r.number) same in absurd (omega (arith, number_some r))
+answer_one (Err r) (Err q) same = ap Err (number_one r q (ap (λ r. r.number) same))
 
 -- what two outcomes have in common: the planner, every word lent, and the answer
-pub record Same (p q : Planner) (v w b c : List ℕ) (x y : Answer) : Type 0 where
+pub record Same (p q : Planner) (v w b c : List ℕ) (x y : Result Done Refusal) : Type 0 where
   pub planner : p ≡ q
   pub words : v ≡ w
   pub buffer : b ≡ c
   pub answer : x ≡ y
 
 -- Any two outcomes that a contract allows coincide: `l` is what the contract of any call but holder says.
-pub coincide : (l : Left) {p q : Planner} {v w b c : List ℕ} {x y : Answer} → leaves p v b x ≡ l → leaves q w c y ≡ l → Same p q v w b c x y
+pub coincide : (l : Left) {p q : Planner} {v w b c : List ℕ} {x y : Result Done Refusal} → leaves p v b x ≡ l → leaves q w c y ≡ l → Same p q v w b c x y
 unfolding leaves
 coincide l {x = x} {y} one other =
     let e = one ∙ sym other in
     record { planner = ap (λ l. l.planner) e; words = ap (λ l. l.words) e; buffer = ap (λ l. l.buffer) e; answer = answer_one x y (ap (λ l. l.answer) e) }
 
 -- the answer that was told
-back_of : ℕ → Holding → Holder
-back_of zero (held slot until) = Held slot until
-back_of zero (idle_until grain) = IdleUntil grain
-back_of zero idle = Idle
-back_of (suc n) (held slot until) = Refused' 0
-back_of (suc n) (idle_until grain) = Refused' 0
-back_of (suc n) idle = Refused' (suc n)
+back_to : Holding → Holder
+back_to (held slot until) = Held slot until
+back_to (idle_until grain) = IdleUntil grain
+back_to idle = Idle
 
-back : (h : Holder) → back_of (told_by h).number (told_by h).holding ≡ h
+back_of : ℕ → Holding → Result Holder Refusal
+back_of zero h = Ok (back_to h)
+back_of (suc n) h = Err (numbered (suc n))
+
+back_none : (n : ℕ) (h : Holding) → 0 < n → back_of n h ≡ Err (numbered n)
+unfolding back_of
+back_none zero h some = absurd (not-suc-le-zero some)
+back_none (suc n) h some = refl
+
+held_back : (h : Holder) → back_to (holding_by h) ≡ h
+unfolding back_to
+held_back (Held slot until) = refl
+held_back (IdleUntil grain) = refl
+held_back Idle = refl
+
+back : (h : Result Holder Refusal) → back_of (told_by h).number (told_by h).holding ≡ h
 unfolding told_by back_of
-back (Held slot until) = refl
-back (IdleUntil grain) = refl
-back Idle = refl
-back (Refused' zero) = refl
-back (Refused' (suc n)) = refl
+back (Ok h) = ap Ok (held_back h)
+back (Err r) = back_none (number_of r) idle (number_some r) ∙ ap Err (numbered_back r)
 
-pub holder_coincide : (t : Told) {r s : Holder} → told_by r ≡ t → told_by s ≡ t → r ≡ s
+pub holder_coincide : (t : Told) {r s : Result Holder Refusal} → told_by r ≡ t → told_by s ≡ t → r ≡ s
 holder_coincide t {r} {s} one other = sym (back r) ∙ ap (λ t. back_of t.number t.holding) (one ∙ sym other) ∙ back s
 
 pub sound_of : (p : Planner) (words : List ℕ) → is_sound_in p words ≡ true → Sound (table_of p words)
