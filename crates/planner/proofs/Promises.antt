@@ -3,7 +3,9 @@ use mathlib.Core.Path.{◌≡◌, ap}
 use mathlib.Core.List.{List}
 use Prim.Native.Nat.{ℕ}
 use Rattle.rules.specs.Held.{Planner}
-use Rattle.calls.specs.declared.Answer.{Answer}
+use Rattle.std.proofs.Common.{Result}
+use Rattle.rules.specs.declared.Refusal.{Refusal}
+use Rattle.calls.specs.declared.Done.{Done}
 use Rattle.calls.specs.Called.{Left}
 use Rattle.calls.proofs.Promises.{coincide as same_outcome}
 use Rattle.planner.specs.declared.Planner.{Planner as Struct}
@@ -13,7 +15,7 @@ use Rattle.planner.specs.Struct.{leaves_by}
 abbrev struct : Planner → Struct
 struct p = record { state = p.state; lists = p.lists }
 
-abbrev next : Struct → Answer → Next
+abbrev next : Struct → Result Done Refusal → Next
 next p a = record { planner = p; answer = a }
 
 pub coincide : (l : Left) {r s : Next} {v w b c : List ℕ} → leaves_by r v b ≡ l → leaves_by s w c ≡ l → (r ≡ s) × (v ≡ w) × (b ≡ c)

@@ -1,5 +1,5 @@
-// The planner as a struct by value: its methods take `self` and hand back the next planner with the answer. Each copies the lists into a
-// local, makes the call on it, and builds the next struct; the calls themselves are those of `calls`.
+// The planner as a struct by value: its methods take `self` and hand back the next planner with the answer. Each makes its call on the
+// copy that it was given; the calls themselves are those of `calls`.
 #![tactic(auto)]
 
 ghost use Rattle.std.specs.Prelude.{◌≡◌, [], length};
@@ -9,8 +9,8 @@ ghost use Rattle.calls.specs.Called.{called, opening, blank_planner};
 ghost use Rattle.calls.specs.Holding.{told};
 ghost use Rattle.planner.specs.Struct.{in_struct, leaves_by};
 
-use calls::Answer;
-use rules::{LIST_WORDS, State};
+use calls::Done;
+use rules::{LIST_WORDS, Refusal, State};
 use wrap::look::Holder;
 
 // "cores, clock, plan start, slots in use as one 64-bit word", the number of boundaries; and the words of 64 boundaries and 64 tasks.
@@ -24,7 +24,7 @@ pub struct Planner {
 #[derive(Clone, Copy)]
 pub struct Next {
     pub planner: Planner,
-    pub answer: Answer,
+    pub answer: Result<Done, Refusal>,
 }
 
 impl Planner {
@@ -46,85 +46,75 @@ impl Planner {
     }
 
     // Open: "a fresh table, clock 0, all 4,096 words zero". Value: the cores.
-    pub fn open(self, shares: &mut [u32], cores: u64) -> Next
+    pub fn open(mut self, shares: &mut [u32], cores: u64) -> Next
         ensures { leaves_by result shares.new [] ≡ opening (in_struct self) shares.old cores }
     {
-        let mut lists = self.lists;
-        let moved = calls::open::open(self.state, &mut lists, shares, cores);
-        let state = moved.state;
-        let answer = moved.answer;
+        let answer = calls::open::open(&mut self.state, &mut self.lists, shares, cores);
         Next {
-            planner: Planner { state, lists },
+            planner: self,
             answer,
         }
     }
 
     // Declare: the lowest free slot. Value: the slot.
-    pub fn declare(self, shares: &[u32], period: u64, cost: u64) -> Next
+    pub fn declare(mut self, shares: &[u32], period: u64, cost: u64) -> Next
         ensures { leaves_by result shares.now []
             ≡ called (in_struct self) shares.now [] (declare period cost) }
     {
-        let mut lists = self.lists;
-        let moved = calls::tasks::declare(self.state, &mut lists, shares, period, cost);
-        let state = moved.state;
-        let answer = moved.answer;
+        let answer = calls::tasks::declare(&mut self.state, &mut self.lists, shares, period, cost);
         Next {
-            planner: Planner { state, lists },
+            planner: self,
             answer,
         }
     }
 
     // Withdraw: the slot is free again and may be used again at once. Value 0.
-    pub fn withdraw(self, shares: &[u32], slot: u64) -> Next
+    pub fn withdraw(mut self, shares: &[u32], slot: u64) -> Next
         ensures { leaves_by result shares.now []
             ≡ called (in_struct self) shares.now [] (withdraw slot) }
     {
-        let mut lists = self.lists;
-        let moved = calls::tasks::withdraw(self.state, &mut lists, shares, slot);
-        let state = moved.state;
-        let answer = moved.answer;
+        let answer = calls::tasks::withdraw(&mut self.state, &mut self.lists, shares, slot);
         Next {
-            planner: Planner { state, lists },
+            planner: self,
             answer,
         }
     }
 
     // Release: the slot's task gets a job, due a period after the clock. Value: its deadline.
-    pub fn release(self, shares: &mut [u32], slot: u64) -> Next
+    pub fn release(mut self, shares: &mut [u32], slot: u64) -> Next
         ensures { leaves_by result shares.new []
             ≡ called (in_struct self) shares.old [] (release slot) }
     {
-        let mut lists = self.lists;
-        let moved = calls::release::release(self.state, &mut lists, shares, slot);
-        let state = moved.state;
-        let answer = moved.answer;
+        let answer = calls::release::release(&mut self.state, &mut self.lists, shares, slot);
         Next {
-            planner: Planner { state, lists },
+            planner: self,
             answer,
         }
     }
 
     // Advance: to a tick, or to the first boundary, with the segments on the way. Value: the tick reached, and the count of segments.
-    pub fn advance(self, shares: &mut [u32], tick: u64, segments: &mut [u64]) -> Next
+    pub fn advance(mut self, shares: &mut [u32], tick: u64, segments: &mut [u64]) -> Next
         ensures { leaves_by result shares.new segments.new
             ≡ called (in_struct self) shares.old segments.old
             (advance tick (length segments.old)) }
     {
-        let mut lists = self.lists;
-        let moved = calls::advance::advance(self.state, &mut lists, shares, tick, segments);
-        let state = moved.state;
-        let answer = moved.answer;
+        let answer = calls::advance::advance(
+            &mut self.state,
+            &mut self.lists,
+            shares,
+            tick,
+            segments,
+        );
         Next {
-            planner: Planner { state, lists },
+            planner: self,
             answer,
         }
     }
 
     // Holder: the slot that holds a core now, with the grain at which its segment ends; changes nothing.
-    pub fn holder(self, shares: &[u32], core: u64) -> Holder
+    pub fn holder(self, shares: &[u32], core: u64) -> Result<Holder, Refusal>
         ensures { told_by result ≡ told (in_struct self) shares.now core }
     {
-        let lists = self.lists;
-        calls::holder::holder(self.state, &lists, shares, core)
+        calls::holder::holder(self.state, &self.lists, shares, core)
     }
 }
