@@ -1,4 +1,3 @@
-pub mod Stores
 pub mod Stationed
 pub mod Telling
 pub mod Promises

@@ -1,15 +1,28 @@
--- The words that holder writes tell its three cases apart: a slot that holds a core is below 64, and slice 0 ends after grain 0.
+-- A refused holder reads as its number, 0 and 0. The words that holder writes tell its three cases apart: a slot that holds a core is below 64, and slice 0 ends after grain 0.
 use mathlib.Core.List.{List, [], ◌∷◌}
 use mathlib.Core.Path.{◌≡◌, refl, ap}
-use Prim.Native.Nat.{ℕ, suc, ◌+◌, ◌-◌, ◌≤◌, ◌<◌}
+use Prim.Native.Nat.{ℕ, zero, suc, ◌+◌, ◌-◌, ◌≤◌, ◌<◌}
 use native.Mathlib.Omega.{arith}
 use lib.ListN.{length}
 use Rattle.rules.proofs.Floor.{by_bool}
+use Rattle.rules.proofs.Numbers.{number_some}
+use Rattle.rules.specs.declared.Refusal.{Refusal}
+use Rattle.rules.specs.Numbers.{number_of}
+use Rattle.rules.specs.Calls.{refusal}
 use Rattle.rules.specs.Advance.{Holding, held, idle_until, idle, held_in, idle_in, holder_of}
 use Rattle.rules.specs.Sound.{Each, Columns, Rises, Sound}
 use Rattle.rules.specs.Station.{Slice, Table, grains, slot_count}
 use Rattle.rules.specs.Wrap.{Segment, holds, on_core, on_next, wrap, wrap_of}
-use Rattle.station.specs.Station.{holding_words}
+use Rattle.station.specs.Station.{holding_words, told_words}
+
+of_some : (n : ℕ) → 0 < n → (h : Holding) → told_words n h ≡ refusal n
+unfolding told_words
+of_some zero some h = absurd (omega arith)
+of_some (suc n) some h = refl
+
+-- no refusal has the number 0
+pub told_refused : (r : Refusal) (h : Holding) → told_words (number_of r) h ≡ refusal (number_of r)
+told_refused r h = of_some (number_of r) (number_some r) h
 
 abbrev Tells : Holding → Type 0
 Tells (held slot until) = slot < slot_count

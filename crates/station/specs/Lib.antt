@@ -1,4 +1,3 @@
 pub mod Area
 pub mod Result
 pub mod Station
-pub mod Put

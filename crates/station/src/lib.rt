@@ -9,9 +9,8 @@ ghost use Rattle.std.specs.Prelude.{◌≡◌, [], length};
 ghost use Rattle.rules.specs.Calls.{declare, withdraw, release, advance};
 ghost use Rattle.station.specs.Station.{lent, stationed, opened_in, holder_in};
 
-use crate::write::{
-    LISTS_FROM, RESULT_WORDS, STATE_WORDS, put_state, state_in, tell, tell_answer, tell_holder,
-};
+use crate::write::{LISTS_FROM, RESULT_WORDS, STATE_WORDS, numbers_of, state_in, tell, tell_holder};
+use rules::{LIST_WORDS, Refusal};
 
 // Open: does not ask what the state area holds. Value: cores.
 #[unsafe(no_mangle)]
@@ -24,17 +23,18 @@ pub extern "C" fn killaruna_open(
     ensures { lent state.new shares.new [] res.new result
         ≡ opened_in state.old shares.old res.old cores }
 {
-    if res.len() < RESULT_WORDS {
+    let Some(res) = res.first_chunk_mut::<RESULT_WORDS>() else {
         return 1;
-    }
-    if state.len() < STATE_WORDS {
-        return tell(res, 1, 0, 0);
-    }
-    let numbers = state_in(state);
-    let moved = calls::open::open(numbers, &mut state[LISTS_FROM..STATE_WORDS], shares, cores);
-    put_state(state, moved.state);
-    let answer = moved.answer;
-    tell_answer(answer, res)
+    };
+    let Some(area) = state.first_chunk_mut::<STATE_WORDS>() else {
+        return tell(res, Err(Refusal::NotSound));
+    };
+    let (numbers, lists) = area.split_first_chunk_mut::<LISTS_FROM>().unwrap();
+    let lists = lists.as_mut_array::<LIST_WORDS>().unwrap();
+    let mut held = state_in(numbers);
+    let answer = calls::open::open(&mut held, lists, shares, cores);
+    *numbers = numbers_of(held);
+    tell(res, answer)
 }
 
 // Declare. Value: the slot.
@@ -49,23 +49,18 @@ pub extern "C" fn killaruna_declare(
     ensures { lent state.new shares.now [] res.new result
         ≡ stationed state.old shares.now [] res.old (declare period cost) }
 {
-    if res.len() < RESULT_WORDS {
+    let Some(res) = res.first_chunk_mut::<RESULT_WORDS>() else {
         return 1;
-    }
-    if state.len() < STATE_WORDS {
-        return tell(res, 1, 0, 0);
-    }
-    let numbers = state_in(state);
-    let moved = calls::tasks::declare(
-        numbers,
-        &mut state[LISTS_FROM..STATE_WORDS],
-        shares,
-        period,
-        cost,
-    );
-    put_state(state, moved.state);
-    let answer = moved.answer;
-    tell_answer(answer, res)
+    };
+    let Some(area) = state.first_chunk_mut::<STATE_WORDS>() else {
+        return tell(res, Err(Refusal::NotSound));
+    };
+    let (numbers, lists) = area.split_first_chunk_mut::<LISTS_FROM>().unwrap();
+    let lists = lists.as_mut_array::<LIST_WORDS>().unwrap();
+    let mut held = state_in(numbers);
+    let answer = calls::tasks::declare(&mut held, lists, shares, period, cost);
+    *numbers = numbers_of(held);
+    tell(res, answer)
 }
 
 // Withdraw. Value 0.
@@ -79,17 +74,18 @@ pub extern "C" fn killaruna_withdraw(
     ensures { lent state.new shares.now [] res.new result
         ≡ stationed state.old shares.now [] res.old (withdraw slot) }
 {
-    if res.len() < RESULT_WORDS {
+    let Some(res) = res.first_chunk_mut::<RESULT_WORDS>() else {
         return 1;
-    }
-    if state.len() < STATE_WORDS {
-        return tell(res, 1, 0, 0);
-    }
-    let numbers = state_in(state);
-    let moved = calls::tasks::withdraw(numbers, &mut state[LISTS_FROM..STATE_WORDS], shares, slot);
-    put_state(state, moved.state);
-    let answer = moved.answer;
-    tell_answer(answer, res)
+    };
+    let Some(area) = state.first_chunk_mut::<STATE_WORDS>() else {
+        return tell(res, Err(Refusal::NotSound));
+    };
+    let (numbers, lists) = area.split_first_chunk_mut::<LISTS_FROM>().unwrap();
+    let lists = lists.as_mut_array::<LIST_WORDS>().unwrap();
+    let mut held = state_in(numbers);
+    let answer = calls::tasks::withdraw(&mut held, lists, shares, slot);
+    *numbers = numbers_of(held);
+    tell(res, answer)
 }
 
 // Release. Value: the deadline.
@@ -103,17 +99,18 @@ pub extern "C" fn killaruna_release(
     ensures { lent state.new shares.new [] res.new result
         ≡ stationed state.old shares.old [] res.old (release slot) }
 {
-    if res.len() < RESULT_WORDS {
+    let Some(res) = res.first_chunk_mut::<RESULT_WORDS>() else {
         return 1;
-    }
-    if state.len() < STATE_WORDS {
-        return tell(res, 1, 0, 0);
-    }
-    let numbers = state_in(state);
-    let moved = calls::release::release(numbers, &mut state[LISTS_FROM..STATE_WORDS], shares, slot);
-    put_state(state, moved.state);
-    let answer = moved.answer;
-    tell_answer(answer, res)
+    };
+    let Some(area) = state.first_chunk_mut::<STATE_WORDS>() else {
+        return tell(res, Err(Refusal::NotSound));
+    };
+    let (numbers, lists) = area.split_first_chunk_mut::<LISTS_FROM>().unwrap();
+    let lists = lists.as_mut_array::<LIST_WORDS>().unwrap();
+    let mut held = state_in(numbers);
+    let answer = calls::release::release(&mut held, lists, shares, slot);
+    *numbers = numbers_of(held);
+    tell(res, answer)
 }
 
 // Advance. Value: the tick reached, and the count of segments.
@@ -129,23 +126,18 @@ pub extern "C" fn killaruna_advance(
         ≡ stationed state.old shares.old segments.old res.old
         (advance tick (length segments.old)) }
 {
-    if res.len() < RESULT_WORDS {
+    let Some(res) = res.first_chunk_mut::<RESULT_WORDS>() else {
         return 1;
-    }
-    if state.len() < STATE_WORDS {
-        return tell(res, 1, 0, 0);
-    }
-    let numbers = state_in(state);
-    let moved = calls::advance::advance(
-        numbers,
-        &mut state[LISTS_FROM..STATE_WORDS],
-        shares,
-        tick,
-        segments,
-    );
-    put_state(state, moved.state);
-    let answer = moved.answer;
-    tell_answer(answer, res)
+    };
+    let Some(area) = state.first_chunk_mut::<STATE_WORDS>() else {
+        return tell(res, Err(Refusal::NotSound));
+    };
+    let (numbers, lists) = area.split_first_chunk_mut::<LISTS_FROM>().unwrap();
+    let lists = lists.as_mut_array::<LIST_WORDS>().unwrap();
+    let mut held = state_in(numbers);
+    let answer = calls::advance::advance(&mut held, lists, shares, tick, segments);
+    *numbers = numbers_of(held);
+    tell(res, answer)
 }
 
 // Holder: number, slot (64: idle) and grain (0: without a limit).
@@ -154,13 +146,15 @@ pub extern "C" fn killaruna_holder(state: &[u64], shares: &[u32], core: u64, res
     ensures { lent state.now shares.now [] res.new result
         ≡ holder_in state.now shares.now res.old core }
 {
-    if res.len() < RESULT_WORDS {
+    let Some(res) = res.first_chunk_mut::<RESULT_WORDS>() else {
         return 1;
-    }
-    if state.len() < STATE_WORDS {
-        return tell(res, 1, 0, 0);
-    }
-    let numbers = state_in(state);
-    let holder = calls::holder::holder(numbers, &state[LISTS_FROM..STATE_WORDS], shares, core);
-    tell_holder(holder, res)
+    };
+    let Some(area) = state.first_chunk::<STATE_WORDS>() else {
+        return tell(res, Err(Refusal::NotSound));
+    };
+    let (numbers, lists) = area.split_first_chunk::<LISTS_FROM>().unwrap();
+    let lists = lists.as_array::<LIST_WORDS>().unwrap();
+    let held = state_in(numbers);
+    let holder = calls::holder::holder(held, lists, shares, core);
+    tell_holder(res, holder)
 }

@@ -1,11 +1,13 @@
 // The five numbers of a state area, and an answer into a result area.
-ghost use Rattle.std.specs.Prelude.{◌≡◌, List, ◌∷◌, ◌++◌, ℕ, ◌≤◌, length, drop};
-ghost use Rattle.station.specs.Area.{state_words, lists_from, state_in, numbers_of};
-ghost use Rattle.station.specs.Result.{result_words, answered};
-ghost use Rattle.station.specs.Put.{plain, plain_holder};
+ghost use Rattle.std.specs.Prelude.{◌≡◌};
+ghost use Rattle.wrap.specs.Holding.{told_by};
+ghost use Rattle.calls.specs.Called.{answer_of};
+ghost use Rattle.station.specs.Area.{state_in, numbers_of};
+ghost use Rattle.station.specs.Result.{answer_words};
+ghost use Rattle.station.specs.Station.{told_words};
 
-use calls::Answer;
-use rules::{LIST_WORDS, SLOTS, State};
+use calls::Done;
+use rules::{LIST_WORDS, Refusal, SLOTS, State};
 use wrap::look::Holder;
 
 // A state area: five numbers, then the planner's lists.
@@ -13,88 +15,74 @@ pub const LISTS_FROM: usize = 5;
 
 pub const STATE_WORDS: usize = LISTS_FROM + LIST_WORDS;
 
-const CORES: usize = 0;
-
-const CLOCK: usize = 1;
-
-const START: usize = 2;
-
-const USED: usize = 3;
-
-const COUNT: usize = 4;
-
 // A result area: number, value and count.
 pub const RESULT_WORDS: usize = 3;
 
 // What stands for the slot where nobody holds the core: one past the last.
 const NOBODY: u64 = SLOTS as u64;
 
-// The numbers of a state area.
-pub fn state_in(area: &[u64]) -> State
-    requires { state_words ≤ length area.now }
-    ensures { result ≡ state_in area.now }
+// The state that five numbers are.
+#[tactic(auto, unfolding(crate::specs::Area::state_in))]
+pub fn state_in(numbers: &[u64; LISTS_FROM]) -> State
+    ensures { result ≡ state_in numbers.now }
 {
+    let [cores, clock, start, used, count] = *numbers;
     State {
-        cores: area[CORES],
-        clock: area[CLOCK],
-        start: area[START],
-        used: area[USED],
-        count: area[COUNT],
+        cores,
+        clock,
+        start,
+        used,
+        count,
     }
 }
 
-// Numbers into a state area.
-pub fn put_state(area: &mut [u64], state: State)
-    requires { state_words ≤ length area.old }
-    ensures { area.new ≡ numbers_of state ++ drop lists_from area.old }
+// The five numbers of a state.
+#[tactic(auto, unfolding(crate::specs::Area::numbers_of))]
+pub fn numbers_of(state: State) -> [u64; LISTS_FROM]
+    ensures { result ≡ numbers_of state }
 {
-    area[CORES] = state.cores;
-    area[CLOCK] = state.clock;
-    area[START] = state.start;
-    area[USED] = state.used;
-    area[COUNT] = state.count;
+    [
+        state.cores,
+        state.clock,
+        state.start,
+        state.used,
+        state.count,
+    ]
 }
 
-// Number, value and count into a result area. Hands back the number.
-pub fn tell(res: &mut [u64], number: u64, value: u64, count: u64) -> u64
-    requires { result_words ≤ length res.old }
-    ensures value { result ≡ number }
-    ensures res_after { res.new ≡ number ∷ (value ∷ (count ∷ drop result_words res.old)) }
-{
-    res[0] = number;
-    res[1] = value;
-    res[2] = count;
-    number
-}
-
-// A call's answer into a result area.
-#[tactic(auto, unfolding(crate::specs::Put::plain, crate::specs::Result::answered))]
-pub fn tell_answer(answer: Answer, res: &mut [u64]) -> u64
-    requires { result_words ≤ length res.old }
-    ensures value { result ≡ (plain answer).number }
-    ensures res_after { res.new ≡ answered (plain answer) res.old }
+// The words of a call's answer.
+#[tactic(auto, unfolding(calls::specs::Called::answer_of, rules::specs::Calls::refusal, crate::specs::Result::answer_words))]
+fn words_of(answer: Result<Done, Refusal>) -> [u64; RESULT_WORDS]
+    ensures { result ≡ answer_words (answer_of answer) }
 {
     match answer {
-        Answer::Done(value, count) => tell(res, 0, value, count),
-        Answer::Refused(number) => tell(res, number, 0, 0),
+        Ok(Done { value, count }) => [0, value, count],
+        Err(refusal) => [refusal.number(), 0, 0],
     }
+}
+
+// A call's answer into a result area. Hands back the number.
+#[tactic(auto, unfolding(crate::specs::Result::answer_words))]
+pub fn tell(res: &mut [u64; RESULT_WORDS], answer: Result<Done, Refusal>) -> u64
+    ensures value { result ≡ (answer_of answer).number }
+    ensures res_after { res.new ≡ answer_words (answer_of answer) }
+{
+    *res = words_of(answer);
+    res[0]
 }
 
 // Holder's answer into a result area.
-#[tactic(auto, unfolding(crate::specs::Put::plain_holder, crate::specs::Result::answered))]
-pub fn tell_holder(holder: Holder, res: &mut [u64]) -> u64
-    requires { result_words ≤ length res.old }
-    ensures value { result ≡ (plain_holder holder).number }
-    ensures res_after { res.new ≡ answered (plain_holder holder) res.old }
+#[tactic(auto, using(crate::proofs::Telling::told_refused), unfolding(calls::specs::Called::answer_of, rules::specs::Calls::refusal, wrap::specs::Holding::told_by, crate::specs::Station::told_words, crate::specs::Station::holding_words))]
+pub fn tell_holder(res: &mut [u64; RESULT_WORDS], holder: Result<Holder, Refusal>) -> u64
+    ensures value { result ≡ (told_by holder).number }
+    ensures res_after { res.new
+        ≡ answer_words (told_words (told_by holder).number (told_by holder).holding) }
 {
-    let Holder::Held(slot, until) = holder else {
-        let Holder::IdleUntil(grain) = holder else {
-            let Holder::Refused(number) = holder else {
-                return tell(res, 0, NOBODY, 0);
-            };
-            return tell(res, number, 0, 0);
-        };
-        return tell(res, 0, NOBODY, grain);
+    let (value, count) = match holder {
+        Ok(Holder::Held { slot, until }) => (slot, until),
+        Ok(Holder::IdleUntil(grain)) => (NOBODY, grain),
+        Ok(Holder::Idle) => (NOBODY, 0),
+        Err(refusal) => return tell(res, Err(refusal)),
     };
-    tell(res, 0, slot, until)
+    tell(res, Ok(Done { value, count }))
 }

@@ -1,47 +1,36 @@
 -- `killaruna_advance` leaves what `stationed` says: a result area that is too short, a state area that is too short, or what the call leaves
 -- of the planner in the area.
-use mathlib.Core.Path.{◌∙◌}
-use Prim.Native.Nat.{◌≤◌}
 use native.Mathlib.Omega.{arith}
-use lib.ListN.{length}
+use mathlib.Core.Path.{◌≡◌}
+use lib.ListN.{length, take, drop}
+use Rattle.std.proofs.Common.{rules}
 use Rattle.rules.specs.Calls.{advance}
-use Rattle.rules.specs.Held.{planner}
-use Rattle.station.specs.Area.{state_words, planner_in}
-use Rattle.station.specs.Result.{result_words}
+use Rattle.station.specs.Area.{lists_from}
 use Rattle.station.specs.Station.{stationed, left_in}
-use Rattle.station.proofs.Stores.{area_back}
-use Rattle.station.proofs.Stationed.{short-result, short-state, lists-long, stationed-is}
+use Rattle.station.proofs.Stationed.{short-result, short-state, split-is, stationed-is}
 use Rattle.station.proofs.killaruna_advance.Goals as goal
-use Rattle.station.proofs.killaruna_advance.Goals.{Else-state-lt-STATE_WORDS}
 
-pub returns-then-res-lt-RESULT_WORDS : goal.returns-then-res-lt-RESULT_WORDS
+pub returns-in_default : goal.returns-in_default
 unfolding stationed left_in
-returns-then-res-lt-RESULT_WORDS c =
+returns-in_default c =
     let at = c.args in
-    short-result at.state.now at.shares.now at.segments.now at.res.now _ (omega arith)
+    short-result at.state.now at.shares.now at.segments.now at.res.now _ c.in_default.ensures.cases
 
-pub returns-then-state-lt-STATE_WORDS : goal.returns-then-state-lt-STATE_WORDS
+pub returns-in_default-first_chunk_mut : goal.returns-in_default-first_chunk_mut
 unfolding stationed left_in
-returns-then-state-lt-STATE_WORDS c =
+returns-in_default-first_chunk_mut c =
     let at = c.args in
     let told = c.tell.ensures in
-    rw (told.value, told.res_after) (short-state at.state.now at.shares.now at.segments.now at.res.now _ (omega arith) (omega arith))
-
-pub advance-moved-requires : goal.advance-moved-requires
-advance-moved-requires c = lists-long c.args.state.now (omega arith)
-
--- both areas are long enough
-long : (e : Else-state-lt-STATE_WORDS) → let at = e.args in (state_words ≤ length at.state.now) × (result_words ≤ length at.res.now)
-long e = omega arith
+    rw (told.value, told.res_after) (short-state at.state.now at.shares.now at.segments.now at.res.now _ c.in-Some.ensures.cases.enough c.in_default-first_chunk_mut.ensures.cases)
 
 pub returns : goal.returns
-unfolding planner_in
 returns c =
     let at = c.args in
     let s = at.state.now in
-    let enough = long (goal.at.returns c).Else-state-lt-STATE_WORDS in
-    let told = c.tell_answer.ensures in
-    let moved = c.advance-moved in
-    let left = rw c.state_in-numbers.ensures at moved.ensures in
-    rw (told.value, told.res_after, c.put_state.ensures, area_back s moved.new.lists moved.result.state enough.0 (moved.auto.lists ∙ lists-long s enough.0))
-    (stationed-is s at.shares.now at.segments.now at.res.now enough.0 enough.1 (advance at.tick (length at.segments.now)) (planner moved.result.state moved.new.lists) moved.new.shares moved.new.segments moved.result.answer left)
+    let area = c.in-Some-first_chunk_mut.ensures.cases in
+    let told = c.tell-2.ensures in
+    let moved = c.advance-answer in
+    let numbers : c.unwrap.result.0.now ≡ take lists_from c.in-Some-first_chunk_mut.area.now = search rules in
+    let lists : c.unwrap-lists.result.now ≡ drop lists_from c.in-Some-first_chunk_mut.area.now = search rules in
+    let split = split-is s c.in-Some-first_chunk_mut.area.now c.unwrap.result.0.now c.unwrap-lists.result.now c.state_in-held.result area.same numbers lists c.state_in-held.ensures in
+    rw (told.value, told.res_after, c.numbers_of.ensures) (stationed-is s at.shares.now at.segments.now at.res.now c.in-Some.ensures.cases.enough area.enough (advance at.tick (length at.segments.now)) moved.new.state moved.new.lists moved.new.shares moved.new.segments moved.result (rw split at moved.ensures))
