@@ -1,4 +1,4 @@
-ghost use Rattle.std.specs.Prelude.{◌≡◌, ◌+◌, ◌*◌, ◌<◌, ◌≤◌, ◌++◌, length, take, drop, slice_index, slice_set};
+ghost use Rattle.std.specs.Prelude.{◌≡◌, ◌+◌, ◌*◌, ◌<◌, ◌≤◌, ◌++◌, length, take, slice_index, slice_set};
 ghost use Rattle.rules.specs.Station.{slot_count, zeros};
 
 use rules::SLOTS;
@@ -12,14 +12,6 @@ pub fn clear(row: &mut [u32; SLOTS])
     ensures { row.new ≡ zeros }
 {
     row.fill(0);
-}
-
-// Of two rows that stand together, the second is copied over the first.
-pub fn copy_up(two: &mut [u32; TWO_ROWS])
-    ensures { two.new ≡ drop slot_count two.old ++ drop slot_count two.old }
-{
-    let (first, second) = two.split_at_mut(SLOTS);
-    first.copy_from_slice(second);
 }
 
 // Of two rows that stand together, the first is copied over the second.

@@ -1,12 +1,14 @@
 -- Loops over slices and boundaries: what is left to look at, from boundary k on, loses one slice a turn.
 -- Slice k is boundary k with row k, as long as there are boundaries.
-use mathlib.Core.Path.{◌≡◌, refl}
+use mathlib.Core.Path.{◌≡◌, refl, ap, sym}
 use mathlib.Core.Bool.{Bool, true, false, ◌&&◌, and_assoc, and-true}
 use mathlib.Core.List.{List, [], ◌∷◌}
-use Prim.Native.Nat.{ℕ, ◌+◌, ◌≤◌, ◌<◌}
+use Prim.Native.Nat.{ℕ, ◌+◌, ◌*◌, ◌≤◌, ◌<◌}
+use native.Mathlib.Nat.{mul-le-mul}
 use native.Mathlib.Numerals.{add-one}
 use native.Mathlib.Omega.{arith}
-use lib.Dec.{eqb}
+use lib.Dec.{eqb, leb, ltb}
+use borrow.Author.Tests.{lt-leb}
 use lib.ListN.{length, take, drop, get_or, length-take, drop_of_length-le}
 use lib.Seq.{drop-cons, get_or-take}
 use Rattle.std.proofs.Common.{Option, Some, None}
@@ -64,6 +66,15 @@ pub not_within : (start : ℕ) (due rates : List ℕ) (lo end : ℕ) (row : List
     → (false ≡ slice_check start due rates lo (slice_at end row)) × (0 ≡ slice_hits start due lo (slice_at end row))
 unfolding slice_check slice_hits slice_at
 not_within start due rates lo end row h = (rw h, rw h)
+
+-- shares that do not fit, taken for more than any sum
+pub one_test : (sum : Option ℕ) (long owed hits : ℕ) → long ≤ 60000 → owed ≤ 4294967295
+    → (leb (unwrap_or sum 18446744073709551615) (long * owed) && ltb 0 hits) ≡ row_test (is_some sum) (unwrap_or sum 0) long owed hits
+unfolding row_test every
+one_test (Some total) long owed hits short small = ap (λ b. leb total (long * owed) && b) (sym (and-true (ltb 0 hits)))
+one_test None long owed hits short small =
+    let fits = mul-le-mul {n₁ = long} {m₁ = owed} {n₂ = 60000} {m₂ = 4294967295} short small in
+    rw (lt-leb 18446744073709551615 (long * owed) (omega (arith, fits)))
 
 pub sum_given : (fits : Bool) (total long owed hits : ℕ) {sum : Option ℕ} → sum ≡ (if fits then Some total else None) → row_test (is_some sum) (unwrap_or sum 0) long owed hits ≡ row_test fits total long owed hits
 unfolding row_test every

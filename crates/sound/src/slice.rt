@@ -26,15 +26,15 @@ pub struct Span {
     pub end: u64,
 }
 
-// What one pass over the row gave, for a slice that is `long` ticks long.
-#[tactic(auto, unfolding(crate::specs::Due::row_test, rules::specs::Sound::every))]
+// What one pass over the row gave, for a slice that is `long` ticks long. Shares that do not fit count as more than any sum: so it is one
+// comparison, and the compiler adds up and compares in one pass.
 fn row_fits(row: RowFacts, long: u64) -> bool
     requires long_le_longest_period { long ≤ longest_period }
     requires owed_bound { row.owed ≤ 4294967295 }
     ensures { result ≡ row_test (is_some row.sum) (unwrap_or row.sum 0) long row.owed row.hits }
 {
-    let most = long * row.owed;
-    row.sum.is_some_and(|sum| sum <= most) && 0 < row.hits
+    let fits = row.sum.unwrap_or(u64::MAX) <= long * row.owed;
+    fits && 0 < row.hits
 }
 
 // Row k and the time of its slice. Any times may come: those that no sound table has are answered before anything is computed.

@@ -7,7 +7,7 @@ use native.Mathlib.Nat.{not-suc-le-zero, le_of_suc-le-suc}
 use native.Mathlib.Omega.{arith}
 use lib.Dec.{lit≤}
 use lib.ListN.{length, take, drop, get_or, set, length-take, length-drop, length-append, take-append-drop}
-use lib.Seq.{take_at, drop_at, take-add, drop-drop, length-take-le, take-take, set-get_or, get_or-set_other}
+use lib.Seq.{take_at, drop_at, take-add, drop-drop, length-take-le, take-take, set-get_or}
 use borrow.Rule.Slice.PartMut.{put_mid, same_len_mid}
 use Rattle.rules.specs.Words.{rows_of, row_at, flat, Rowed}
 
@@ -15,7 +15,7 @@ use Rattle.rules.specs.Words.{rows_of, row_at, flat, Rowed}
 pub drop-take : (n m : ℕ) (w : List ℕ) → n ≤ length w → drop n (take (n + m) w) ≡ take m (drop n w)
 drop-take n m w h = rw (take-add n m w) (drop_at (take n w) (take m (drop n w)) n (length-take-le n w h))
 
-next_row : (k : ℕ) → 64 * suc k ≡ 64 + 64 * k
+pub next_row : (k : ℕ) → 64 * suc k ≡ 64 + 64 * k
 next_row k = omega arith
 
 pub length-rows_of : (n : ℕ) (w : List ℕ) → length (rows_of n w) ≡ n
@@ -89,7 +89,7 @@ rows_of_put2 k w x y h room lx ly =
     rw (both (64 * k) 64 64 w x y here lx, next, rows_of_put 64 (suc k) (put_mid (64 * k) 64 w x) y h (omega arith) ly, rows_of_put 64 k w x (omega arith) room lx)
 
 -- what lies past the table is as it was
-past_put : (N a m : ℕ) (w ys : List ℕ) → a + m ≤ N → N ≤ length w → length ys ≡ m → drop N (put_mid a m w ys) ≡ drop N w
+pub past_put : (N a m : ℕ) (w ys : List ℕ) → a + m ≤ N → N ≤ length w → length ys ≡ m → drop N (put_mid a m w ys) ≡ drop N w
 past_put N a m w ys h room is =
     let whole : length (take a w ++ ys) ≡ a + m = simp (length-append, length-take) (omega arith) in
     let far : a + m + (N - (a + m)) ≡ N = omega arith in
@@ -126,17 +126,6 @@ module _ (v : List ℕ) (room : 4096 ≤ length v) (k m : ℕ) (ys : List ℕ) (
     twice : (x : List ℕ) → length x ≡ 64 → ys ≡ x ++ x → Rowed v (set (set (rows_of 64 v) k x) (suc k) x) (put_mid (64 * k) m v ys)
     twice x long got = apart x x long long got
 
-    -- the second was copied over the first
-    pub row_up : ys ≡ drop 64 (take m (drop (64 * k) v)) ++ drop 64 (take m (drop (64 * k) v)) → Rowed v (set (rows_of 64 v) k (row_at (suc k) v)) (put_mid (64 * k) m v ys)
-    unfolding row_at
-    row_up got =
-        let x = row_at (suc k) v in
-        let R = rows_of 64 v in
-        let second : drop 64 (take 128 (drop (64 * k) v)) ≡ x = two_second v room k h in
-        let stays : get_or (set R k x) (suc k) [] ≡ x = get_or-set_other R k (suc k) x [] (omega arith) in
-        let r = twice x (length_row (suc k) v h room) (rw (is, second) at got) in
-        record { rows = r.rows ∙ rw stays at (set-get_or (set R k x) (suc k) []); past = r.past }
-
     -- the first was copied over the second
     pub row_down : ys ≡ take 64 (take m (drop (64 * k) v)) ++ take 64 (take m (drop (64 * k) v)) → Rowed v (set (rows_of 64 v) (suc k) (row_at k v)) (put_mid (64 * k) m v ys)
     unfolding row_at
@@ -167,12 +156,6 @@ module _ (v : List ℕ) (room : 4096 ≤ length v) (k : ℕ) (front rest : List 
       last ∙ rw (here, ahead, far) (drop-take (64 * j) 64 v (omega arith)) ∙ row_part j 64 v refl (omega arith)
 
   -- the first 128 of the words behind the cut were lent, and come back as ys
-  pub row_up_back : (two ys : List ℕ) → suc k < 64 → two ≡ take 128 rest → ys ≡ drop 64 two ++ drop 64 two → Rowed v (set (rows_of 64 v) k (row_at (suc k) v)) (front ++ (ys ++ drop 128 rest))
-  row_up_back two ys h is got =
-      let made : ys ≡ drop 64 (take 128 (drop (64 * k) v)) ++ drop 64 (take 128 (drop (64 * k) v)) = rw (is, behind) at got in
-      let lent : length (take 128 (drop (64 * k) v)) ≡ 128 = length-take-le 128 (drop (64 * k) v) (simp length-drop (omega arith)) in
-      rw (ahead, behind) (row_up v room k 128 ys (rw made (simp (length-append, length-drop) (omega arith))) h refl made)
-
   pub row_down_back : (two ys : List ℕ) → suc k < 64 → two ≡ take 128 rest → ys ≡ take 64 two ++ take 64 two → Rowed v (set (rows_of 64 v) (suc k) (row_at k v)) (front ++ (ys ++ drop 128 rest))
   row_down_back two ys h is got =
       let made : ys ≡ take 64 (take 128 (drop (64 * k) v)) ++ take 64 (take 128 (drop (64 * k) v)) = rw (is, behind) at got in
