@@ -42,7 +42,7 @@ unfolding planner_in
 planner_wide s long = length-take-le list_words (drop lists_from s) (omega (arith, length-drop lists_from s))
 
 -- What a call on the areas leaves in the words lent: `made` says what it leaves of the planner that it is lent.
-module _ {F : Type 0} (g : Mut F Loan (Result Done Refusal × Loan)) (call call' : F) (state shares segments result state' shares' segments' result' : List ℕ) (number : ℕ) where
+module _ {F : Type 0} {g : Mut F Loan (Result Done Refusal × Loan)} {call call' : F} {state shares segments result state' shares' segments' result' : List ℕ} {number : ℕ} where
   pub framed-is : (made : Planner → Left) → Framed g call call' state result state' result' number
       → (call' ≡ call → (shares' ≡ shares) × (segments' ≡ segments))
       → ((lent left : Loan) (a : Result Done Refusal) → Called g call lent (a, left) call' → leaves (planner left.0.now left.1.0.now) shares' segments' a ≡ made (planner lent.0.now lent.1.0.now))

@@ -10,4 +10,4 @@ pub returns : goal.returns
 unfolding stationed
 returns c =
     let at = c.args in
-    framed-is _ _ _ at.state.now at.shares.now at.segments.now at.res.now _ _ _ _ _ (λ p. called p at.shares.now at.segments.now (advance at.tick (length at.segments.now))) c.on_area.ensures (λ same. (search rules, search rules)) (λ lent left answer call. let made = call.met in search rules)
+    framed-is (λ p. called p at.shares.now at.segments.now (advance at.tick (length at.segments.now))) c.on_area.ensures (λ same. (search rules, search rules)) (λ lent left answer call. let made = call.met in search rules)

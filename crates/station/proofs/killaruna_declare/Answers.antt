@@ -12,4 +12,4 @@ pub returns : goal.returns
 unfolding stationed
 returns c =
     let at = c.args in
-    framed-is _ _ _ at.state.now at.shares.now [] at.res.now _ _ _ _ _ (λ p. called p at.shares.now [] (declare at.period at.cost)) c.on_area.ensures (λ same. (refl, refl)) (λ lent left answer call. let made = call.met in search rules)
+    framed-is (λ p. called p at.shares.now [] (declare at.period at.cost)) c.on_area.ensures (λ same. (refl, refl)) (λ lent left answer call. let made = call.met in search rules)

@@ -1,5 +1,4 @@
 -- `killaruna_open` leaves what `opened_in` says: its call leaves that of the planner in the area.
-use mathlib.Core.List.{[]}
 use mathlib.Core.Path.{refl}
 use Rattle.std.proofs.Common.{rules}
 use Rattle.calls.specs.Called.{opening}
@@ -11,4 +10,4 @@ pub returns : goal.returns
 unfolding opened_in
 returns c =
     let at = c.args in
-    framed-is _ _ _ at.state.now at.shares.now [] at.res.now _ _ _ _ _ (λ p. opening p at.shares.now at.cores) c.on_area.ensures (λ same. (search rules, refl)) (λ lent left answer call. let made = call.met in search rules)
+    framed-is (λ p. opening p at.shares.now at.cores) c.on_area.ensures (λ same. (search rules, refl)) (λ lent left answer call. let made = call.met in search rules)
