@@ -35,6 +35,7 @@ module _ {F : Type 0} (g : Mut F Loan (Result Done Refusal × Loan)) (call call'
     pub result_is : result' ≡ answered (answer_of answer) result
     pub number_is : number ≡ (answer_of answer).number
 
+  -- first the areas' lengths, and then the call
   pub record Framed : Type 0 where
     pub short_result : length result < result_words → Unmade result
     pub short_state : result_words ≤ length result → length state < state_words → Unmade (answered (refusal 1) result)

@@ -53,7 +53,7 @@ pub extern "C" fn killaruna_open(
     on_area(
         state,
         res,
-        &mut |state, lists| { calls::open::open(state, lists, shares, cores) },
+        &mut |state, lists| calls::open::open(state, lists, shares, cores),
     )
 }
 
@@ -72,7 +72,7 @@ pub extern "C" fn killaruna_declare(
     on_area(
         state,
         res,
-        &mut |state, lists| { calls::tasks::declare(state, lists, shares, period, cost) },
+        &mut |state, lists| calls::tasks::declare(state, lists, shares, period, cost),
     )
 }
 
@@ -90,7 +90,7 @@ pub extern "C" fn killaruna_withdraw(
     on_area(
         state,
         res,
-        &mut |state, lists| { calls::tasks::withdraw(state, lists, shares, slot) },
+        &mut |state, lists| calls::tasks::withdraw(state, lists, shares, slot),
     )
 }
 
@@ -108,7 +108,7 @@ pub extern "C" fn killaruna_release(
     on_area(
         state,
         res,
-        &mut |state, lists| { calls::release::release(state, lists, shares, slot) },
+        &mut |state, lists| calls::release::release(state, lists, shares, slot),
     )
 }
 
@@ -128,7 +128,7 @@ pub extern "C" fn killaruna_advance(
     on_area(
         state,
         res,
-        &mut |state, lists| { calls::advance::advance(state, lists, shares, tick, segments) },
+        &mut |state, lists| calls::advance::advance(state, lists, shares, tick, segments),
     )
 }
 
