@@ -1,3 +1,4 @@
+pub mod Framed
 pub mod Stationed
 pub mod Telling
 pub mod Promises

@@ -1,27 +1,26 @@
 -- How a call comes out: a result area that is too short, a state area that is too short, or what the call leaves of the planner that the
 -- area holds.
 use mathlib.Core.List.{List, [], ◌++◌}
-use mathlib.Core.Path.{◌≡◌, refl}
+use mathlib.Core.Path.{◌≡◌}
 use Prim.Native.Nat.{ℕ, ◌≤◌, ◌<◌}
 use native.Mathlib.Omega.{arith}
-use lib.ListN.{length, take, drop, length-drop}
+use lib.ListN.{length, drop, length-drop}
 use lib.Seq.{length-take-le}
 use borrow.Author.Tests.{lt-ltb, le-ltb}
-use Rattle.std.proofs.Common.{Result, Err}
-use Rattle.std.proofs.lemmas.List.{get_or-take, drop-take}
+use Rattle.rules.proofs.Floor.{by_lt}
+use Rattle.std.proofs.Common.{Result}
+use Rattle.std.specs.Fn.{Mut, Called}
 use Rattle.rules.specs.declared.Refusal.{Refusal}
-use Rattle.rules.specs.declared.Refusal.TheVariants.{NotSound}
-use Rattle.rules.specs.declared.State.{State}
-use Rattle.rules.specs.Numbers.{number_of}
-use Rattle.rules.specs.Calls.{Call, refusal}
-use Rattle.rules.specs.Held.{planner, list_words}
+use Rattle.rules.specs.Calls.{refusal}
+use Rattle.rules.specs.Held.{Planner, planner, list_words}
 use Rattle.wrap.specs.Holding.{Told}
 use Rattle.calls.specs.declared.Done.{Done}
-use Rattle.calls.specs.Called.{answer_of, Left, leaves, called, opening}
+use Rattle.calls.specs.Called.{Left, leaves}
 use Rattle.calls.specs.Holding.{told}
-use Rattle.station.specs.Area.{state_words, lists_from, state_in, planner_in, numbers_of, words_for}
+use Rattle.station.specs.Area.{state_words, lists_from, planner_in}
 use Rattle.station.specs.Result.{result_words, answer_words, answered}
-use Rattle.station.specs.Station.{Lent, lent, lengths_first, left_in, stationed, opened_in, told_words, holder_in}
+use Rattle.station.specs.Station.{Lent, lent, lengths_first, left_in, told_words, holder_in}
+use Rattle.station.specs.Frame.{Loan, Framed}
 
 -- the areas' lengths
 module _ (state shares segments result : List ℕ) (then : Lent) where
@@ -29,12 +28,11 @@ module _ (state shares segments result : List ℕ) (then : Lent) where
   unfolding lengths_first
   short-result short = rw (lt-ltb (length result) result_words short)
 
-  pub short-state : result_words ≤ length result → length state < state_words
-      → lent state shares segments (answer_words (answer_of (Err NotSound)) ++ drop result_words result) (answer_of (Err NotSound)).number ≡ lengths_first state shares segments result then
-  unfolding lengths_first answered answer_of number_of refusal
+  pub short-state : result_words ≤ length result → length state < state_words → lent state shares segments (answered (refusal 1) result) 1 ≡ lengths_first state shares segments result then
+  unfolding lengths_first
   short-state room short = rw (le-ltb (length result) result_words room, lt-ltb (length state) state_words short)
 
-  pub long_enough : result_words ≤ length result → state_words ≤ length state → then ≡ lengths_first state shares segments result then
+  long_enough : result_words ≤ length result → state_words ≤ length state → then ≡ lengths_first state shares segments result then
   unfolding lengths_first
   long_enough room long = rw (le-ltb (length result) result_words room, le-ltb (length state) state_words long)
 
@@ -43,36 +41,28 @@ pub planner_wide : (s : List ℕ) → state_words ≤ length s → length (plann
 unfolding planner_in
 planner_wide s long = length-take-le list_words (drop lists_from s) (omega (arith, length-drop lists_from s))
 
--- the numbers of an area's front are those of the area
-state_front : (n : ℕ) (s : List ℕ) → lists_from ≤ n → state_in (take n s) ≡ state_in s
-unfolding state_in
-state_front n s some =
-    rw (get_or-take n s 0 0 (omega arith), get_or-take n s 1 0 (omega arith), get_or-take n s 2 0 (omega arith), get_or-take n s 3 0 (omega arith), get_or-take n s 4 0 (omega arith)) refl
-
--- An area that was split into its numbers and its lists: they are the planner that it holds.
-pub split-is : (s area numbers lists : List ℕ) (held : State) → area ≡ take state_words s → numbers ≡ take lists_from area → lists ≡ drop lists_from area → held ≡ state_in numbers
-    → planner held lists ≡ planner_in s
-unfolding planner_in
-split-is s area numbers lists held a n l h =
-    rw (h, n, l, a, state_front lists_from (take state_words s) (omega arith), state_front state_words s (omega arith), drop-take lists_from list_words s) refl
-
--- What a call leaves, in the words lent.
-module _ (state shares segments result : List ℕ) (room : result_words ≤ length result) (long : state_words ≤ length state) where
-  left-lent : (l : Left) (held : State) (lists v b : List ℕ) (a : Result Done Refusal) → leaves (planner held lists) v b a ≡ l
-      → lent ((numbers_of held ++ lists) ++ drop state_words state) v b (answer_words (answer_of a) ++ drop result_words result) (answer_of a).number ≡ left_in l state shares segments result
-  unfolding left_in leaves words_for answered
-  left-lent l held lists v b a e = rw (← e) (long_enough state shares segments result _ room long)
-
-  pub stationed-is : (call : Call) (held : State) (lists v b : List ℕ) (a : Result Done Refusal) → leaves (planner held lists) v b a ≡ called (planner_in state) shares segments call
-      → lent ((numbers_of held ++ lists) ++ drop state_words state) v b (answer_words (answer_of a) ++ drop result_words result) (answer_of a).number ≡ stationed state shares segments result call
-  unfolding stationed
-  stationed-is call = left-lent (called (planner_in state) shares segments call)
-
-pub opened-is : (state shares result : List ℕ) → result_words ≤ length result → state_words ≤ length state → (cores : ℕ) (held : State) (lists v : List ℕ) (a : Result Done Refusal)
-    → leaves (planner held lists) v [] a ≡ opening (planner_in state) shares cores
-    → lent ((numbers_of held ++ lists) ++ drop state_words state) v [] (answer_words (answer_of a) ++ drop result_words result) (answer_of a).number ≡ opened_in state shares result cores
-unfolding opened_in
-opened-is state shares result room long cores held lists v a e = left-lent state shares [] result room long (opening (planner_in state) shares cores) held lists v [] a e
+-- What a call on the areas leaves in the words lent: `made` says what it leaves of the planner that it is lent.
+module _ {F : Type 0} {g : Mut F Loan (Result Done Refusal × Loan)} {call call' : F} {state shares segments result state' shares' segments' result' : List ℕ} {number : ℕ} where
+  pub framed-is : (made : Planner → Left) → Framed g call call' state result state' result' number
+      → (call' ≡ call → (shares' ≡ shares) × (segments' ≡ segments))
+      → ((lent left : Loan) (a : Result Done Refusal) → Called g call lent (a, left) call' → leaves (planner left.0.now left.1.0.now) shares' segments' a ≡ made (planner lent.0.now lent.1.0.now))
+      → lent state' shares' segments' result' number ≡ left_in (made (planner_in state)) state shares segments result
+  unfolding left_in leaves
+  framed-is made framed still makes =
+      by_lt (length result) result_words
+      (λ short.
+      let unmade = framed.short_result short in
+      let kept = still unmade.call_same in
+      rw (unmade.state_same, unmade.result_is, unmade.number_is, kept.0, kept.1) (short-result state shares segments result _ short))
+      (λ room. by_lt (length state) state_words
+      (λ short.
+      let unmade = framed.short_state room short in
+      let kept = still unmade.call_same in
+      rw (unmade.state_same, unmade.result_is, unmade.number_is, kept.0, kept.1) (short-state state shares segments result _ room short))
+      (λ long.
+      let m = framed.long room long in
+      let left = makes m.lent m.left m.answer m.called in
+      rw (m.state_is, m.result_is, m.number_is, ← m.reads, ← left) (long_enough state shares segments result _ room long)))
 
 -- Holder: what it tells, in the words lent.
 pub held-is : (state shares result : List ℕ) → result_words ≤ length result → state_words ≤ length state → (core : ℕ) (t : Told) → t ≡ told (planner_in state) shares core

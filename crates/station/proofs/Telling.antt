@@ -1,4 +1,5 @@
--- A refused holder reads as its number, 0 and 0. The words that holder writes tell its three cases apart: a slot that holds a core is below 64, and slice 0 ends after grain 0.
+-- A refused holder reads as its number, 0 and 0. The words that holder writes tell its three cases apart: a slot that holds a core is
+-- below 64, and slice 0 ends after grain 0.
 use mathlib.Core.List.{List, [], ◌∷◌}
 use mathlib.Core.Path.{◌≡◌, refl, ap}
 use Prim.Native.Nat.{ℕ, zero, suc, ◌+◌, ◌-◌, ◌≤◌, ◌<◌}
@@ -15,12 +16,13 @@ use Rattle.rules.specs.Station.{Slice, Table, grains, slot_count}
 use Rattle.rules.specs.Wrap.{Segment, holds, on_core, on_next, wrap, wrap_of}
 use Rattle.station.specs.Station.{holding_words, told_words}
 
+-- a number that is not 0 is read as a refusal
 of_some : (n : ℕ) → 0 < n → (h : Holding) → told_words n h ≡ refusal n
 unfolding told_words
 of_some zero some h = absurd (omega arith)
 of_some (suc n) some h = refl
 
--- no refusal has the number 0
+-- A refusal is read as one.
 pub told_refused : (r : Refusal) (h : Holding) → told_words (number_of r) h ≡ refusal (number_of r)
 told_refused r h = of_some (number_of r) (number_some r) h
 

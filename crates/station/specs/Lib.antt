@@ -1,3 +1,4 @@
 pub mod Area
 pub mod Result
 pub mod Station
+pub mod Frame

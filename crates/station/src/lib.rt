@@ -1,6 +1,5 @@
 // The planner for a station in C or Rust: six calls on areas of words that the station lends. Each answers a refusal's number, 0 where the
-// call is done, and writes number, value and count into the result area. A call loads the five numbers of the state area, makes the call of
-// `calls` on the lists where they lie, and stores the numbers.
+// call is done, and writes number, value and count into the result area.
 #![tactic(auto)]
 
 mod write; // write.rt: the numbers of a state area, and an answer into a result area
@@ -8,9 +7,37 @@ mod write; // write.rt: the numbers of a state area, and an answer into a result
 ghost use Rattle.std.specs.Prelude.{◌≡◌, [], length};
 ghost use Rattle.rules.specs.Calls.{declare, withdraw, release, advance};
 ghost use Rattle.station.specs.Station.{lent, stationed, opened_in, holder_in};
+ghost use Rattle.station.specs.Frame.{Framed};
 
-use crate::write::{LISTS_FROM, RESULT_WORDS, STATE_WORDS, numbers_of, state_in, tell, tell_holder};
-use rules::{LIST_WORDS, Refusal};
+use crate::write::{
+    LISTS_FROM, RESULT_WORDS, STATE_WORDS, numbers_of, state_in, tell, tell_holder,
+};
+use calls::Done;
+use rules::{LIST_WORDS, Refusal, State};
+
+// The frame of a call that changes the planner: the areas' lengths, the call on the numbers and on the lists where they lie, the numbers
+// stored, the answer told. The call is taken by `&mut`, as only then a contract can say what it left of all that it borrowed.
+fn on_area<F: FnMut(&mut State, &mut [u64; LIST_WORDS]) -> Result<Done, Refusal>>(
+    state: &mut [u64],
+    res: &mut [u64],
+    call: &mut F,
+) -> u64
+    requires { F.IsAlwaysCallable call.old }
+    ensures { Framed F.FnMut call.old call.new state.old res.old state.new res.new result }
+{
+    let Some(res) = res.first_chunk_mut::<RESULT_WORDS>() else {
+        return 1;
+    };
+    let Some(area) = state.first_chunk_mut::<STATE_WORDS>() else {
+        return tell(res, Err(Refusal::NotSound));
+    };
+    let (numbers, lists) = area.split_first_chunk_mut::<LISTS_FROM>().unwrap();
+    let lists = lists.as_mut_array::<LIST_WORDS>().unwrap();
+    let mut held = state_in(numbers);
+    let answer = call(&mut held, lists);
+    *numbers = numbers_of(held);
+    tell(res, answer)
+}
 
 // Open: does not ask what the state area holds. Value: cores.
 #[unsafe(no_mangle)]
@@ -23,18 +50,11 @@ pub extern "C" fn killaruna_open(
     ensures { lent state.new shares.new [] res.new result
         ≡ opened_in state.old shares.old res.old cores }
 {
-    let Some(res) = res.first_chunk_mut::<RESULT_WORDS>() else {
-        return 1;
-    };
-    let Some(area) = state.first_chunk_mut::<STATE_WORDS>() else {
-        return tell(res, Err(Refusal::NotSound));
-    };
-    let (numbers, lists) = area.split_first_chunk_mut::<LISTS_FROM>().unwrap();
-    let lists = lists.as_mut_array::<LIST_WORDS>().unwrap();
-    let mut held = state_in(numbers);
-    let answer = calls::open::open(&mut held, lists, shares, cores);
-    *numbers = numbers_of(held);
-    tell(res, answer)
+    on_area(
+        state,
+        res,
+        &mut |state, lists| calls::open::open(state, lists, shares, cores),
+    )
 }
 
 // Declare. Value: the slot.
@@ -49,18 +69,11 @@ pub extern "C" fn killaruna_declare(
     ensures { lent state.new shares.now [] res.new result
         ≡ stationed state.old shares.now [] res.old (declare period cost) }
 {
-    let Some(res) = res.first_chunk_mut::<RESULT_WORDS>() else {
-        return 1;
-    };
-    let Some(area) = state.first_chunk_mut::<STATE_WORDS>() else {
-        return tell(res, Err(Refusal::NotSound));
-    };
-    let (numbers, lists) = area.split_first_chunk_mut::<LISTS_FROM>().unwrap();
-    let lists = lists.as_mut_array::<LIST_WORDS>().unwrap();
-    let mut held = state_in(numbers);
-    let answer = calls::tasks::declare(&mut held, lists, shares, period, cost);
-    *numbers = numbers_of(held);
-    tell(res, answer)
+    on_area(
+        state,
+        res,
+        &mut |state, lists| calls::tasks::declare(state, lists, shares, period, cost),
+    )
 }
 
 // Withdraw. Value 0.
@@ -74,18 +87,11 @@ pub extern "C" fn killaruna_withdraw(
     ensures { lent state.new shares.now [] res.new result
         ≡ stationed state.old shares.now [] res.old (withdraw slot) }
 {
-    let Some(res) = res.first_chunk_mut::<RESULT_WORDS>() else {
-        return 1;
-    };
-    let Some(area) = state.first_chunk_mut::<STATE_WORDS>() else {
-        return tell(res, Err(Refusal::NotSound));
-    };
-    let (numbers, lists) = area.split_first_chunk_mut::<LISTS_FROM>().unwrap();
-    let lists = lists.as_mut_array::<LIST_WORDS>().unwrap();
-    let mut held = state_in(numbers);
-    let answer = calls::tasks::withdraw(&mut held, lists, shares, slot);
-    *numbers = numbers_of(held);
-    tell(res, answer)
+    on_area(
+        state,
+        res,
+        &mut |state, lists| calls::tasks::withdraw(state, lists, shares, slot),
+    )
 }
 
 // Release. Value: the deadline.
@@ -99,18 +105,11 @@ pub extern "C" fn killaruna_release(
     ensures { lent state.new shares.new [] res.new result
         ≡ stationed state.old shares.old [] res.old (release slot) }
 {
-    let Some(res) = res.first_chunk_mut::<RESULT_WORDS>() else {
-        return 1;
-    };
-    let Some(area) = state.first_chunk_mut::<STATE_WORDS>() else {
-        return tell(res, Err(Refusal::NotSound));
-    };
-    let (numbers, lists) = area.split_first_chunk_mut::<LISTS_FROM>().unwrap();
-    let lists = lists.as_mut_array::<LIST_WORDS>().unwrap();
-    let mut held = state_in(numbers);
-    let answer = calls::release::release(&mut held, lists, shares, slot);
-    *numbers = numbers_of(held);
-    tell(res, answer)
+    on_area(
+        state,
+        res,
+        &mut |state, lists| calls::release::release(state, lists, shares, slot),
+    )
 }
 
 // Advance. Value: the tick reached, and the count of segments.
@@ -126,21 +125,14 @@ pub extern "C" fn killaruna_advance(
         ≡ stationed state.old shares.old segments.old res.old
         (advance tick (length segments.old)) }
 {
-    let Some(res) = res.first_chunk_mut::<RESULT_WORDS>() else {
-        return 1;
-    };
-    let Some(area) = state.first_chunk_mut::<STATE_WORDS>() else {
-        return tell(res, Err(Refusal::NotSound));
-    };
-    let (numbers, lists) = area.split_first_chunk_mut::<LISTS_FROM>().unwrap();
-    let lists = lists.as_mut_array::<LIST_WORDS>().unwrap();
-    let mut held = state_in(numbers);
-    let answer = calls::advance::advance(&mut held, lists, shares, tick, segments);
-    *numbers = numbers_of(held);
-    tell(res, answer)
+    on_area(
+        state,
+        res,
+        &mut |state, lists| calls::advance::advance(state, lists, shares, tick, segments),
+    )
 }
 
-// Holder: number, slot (64: idle) and grain (0: without a limit).
+// Holder: number, slot (64: idle) and grain (0: without a limit). It is lent the state area to read alone, so the frame does not fit it.
 #[unsafe(no_mangle)]
 pub extern "C" fn killaruna_holder(state: &[u64], shares: &[u32], core: u64, res: &mut [u64]) -> u64
     ensures { lent state.now shares.now [] res.new result

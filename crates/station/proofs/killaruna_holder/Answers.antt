@@ -1,5 +1,4 @@
 -- `killaruna_holder` leaves what `holder_in` says: a result area that is too short, a state area that is too short, or holder's answer.
-use native.Mathlib.Omega.{arith}
 use mathlib.Core.List.{[]}
 use mathlib.Core.Path.{◌≡◌}
 use lib.ListN.{take, drop}
@@ -7,7 +6,12 @@ use Rattle.std.proofs.Common.{rules}
 use Rattle.wrap.specs.Holding.{told_by}
 use Rattle.station.specs.Area.{lists_from}
 use Rattle.station.specs.Station.{holder_in}
-use Rattle.station.proofs.Stationed.{short-result, short-state, split-is, held-is}
+use Rattle.station.specs.Result.{answered}
+use Rattle.station.proofs.Framed.{split-is}
+use Rattle.station.proofs.Stationed.{short-result, short-state, held-is}
+use Rattle.calls.specs.Called.{answer_of}
+use Rattle.rules.specs.Calls.{refusal}
+use Rattle.rules.specs.Numbers.{number_of}
 use Rattle.station.proofs.killaruna_holder.Goals as goal
 
 pub returns-in_default : goal.returns-in_default
@@ -17,7 +21,7 @@ returns-in_default c =
     short-result at.state.now at.shares.now [] at.res.now _ c.in_default.ensures.cases
 
 pub returns-in_default-first_chunk : goal.returns-in_default-first_chunk
-unfolding holder_in
+unfolding holder_in answered answer_of refusal number_of
 returns-in_default-first_chunk c =
     let at = c.args in
     let told = c.tell.ensures in
