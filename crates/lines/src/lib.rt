@@ -2,7 +2,6 @@
 #![tactic(auto)]
 
 ghost use Rattle.std.specs.Prelude.{◌≡◌, ◌+◌, ◌≤◌, min, suc, length};
-ghost use Rattle.std.proofs.Math.Seq.{paste};
 ghost use Rattle.lines.specs.Lines.{line_bytes, line_end, Fills};
 
 // "A line over 64 bytes is malformed", so no more of it is stored.
@@ -13,29 +12,11 @@ const NEWLINE: u8 = 10;
 
 // What is kept of a line, after a piece was taken into it: its length, up to 65; how many bytes of the piece went with it; and
 // whether a newline ended it.
-#[derive(Clone, Copy)]
+#[derive(Clone, Copy, Debug, PartialEq, Eq)]
 pub struct Filled {
     pub len: usize,
     pub used: usize,
-    pub ended: bool,
-}
-
-fn smaller(a: usize, b: usize) -> usize
-    ensures { result ≡ min a b }
-{
-    if a < b { a } else { b }
-}
-
-// How long a line is with n bytes more, counted up to 65.
-fn longer(len: usize, n: usize) -> usize
-    requires { len ≤ suc line_bytes }
-    ensures { result ≡ min (len + n) (suc line_bytes) }
-{
-    if LINE_BYTES + 1 - len < n {
-        LINE_BYTES + 1
-    } else {
-        len + n
-    }
+    pub ended: bool, // The other two are told of each piece, so this is no Option over them.
 }
 
 // How many bytes of a piece stand before its first newline, or in all of it.
@@ -43,27 +24,10 @@ fn line_end(piece: &[u8]) -> usize
     ensures value { result ≡ line_end piece.now }
     ensures upper_bound { result ≤ length piece.now }
 {
-    let mut i: usize = 0;
-    while i < piece.len() {
-        if piece[i] == NEWLINE {
-            return i;
-        }
-        i += 1;
-    }
-    i
-}
-
-// The first n bytes of a piece, copied to a place in the line.
-fn copy(line: &mut [u8], at: usize, piece: &[u8], n: usize)
-    requires fits_line { at + n ≤ length line.old }
-    requires fits_piece { n ≤ length piece.now }
-    ensures { line.new ≡ paste line.old at piece.now n }
-{
-    let mut i: usize = 0;
-    while i < n {
-        line[at + i] = piece[i];
-        i += 1;
-    }
+    piece
+        .iter()
+        .position(|b| *b == NEWLINE)
+        .unwrap_or(piece.len())
 }
 
 // A piece up to its first newline, or all of it, taken into a line of which len bytes are there.
@@ -73,19 +37,12 @@ pub fn fill(line: &mut [u8], len: usize, piece: &[u8]) -> Filled
     ensures { Fills line.old len piece.now result line.new }
 {
     let n = line_end(piece);
-    let at = smaller(len, LINE_BYTES);
-    copy(line, at, piece, smaller(n, LINE_BYTES - at));
-    let total = longer(len, n);
-    if n < piece.len() {
-        return Filled {
-            len: total,
-            used: n + 1,
-            ended: true,
-        };
-    }
+    let at = len.min(LINE_BYTES);
+    let stored = n.min(LINE_BYTES - at);
+    line[at..at + stored].copy_from_slice(&piece[..stored]);
     Filled {
-        len: total,
-        used: n,
-        ended: false,
+        len: (len + n).min(LINE_BYTES + 1),
+        used: (n + 1).min(piece.len()),
+        ended: n < piece.len(),
     }
 }

@@ -1,22 +1,15 @@
--- `line_end` finds the first newline: what is left of the piece tells how far it still is. Assumes nothing.
-use native.Mathlib.Omega.{arith}
-use Rattle.lines.proofs.Ends.{end_here, end-next, end_last}
+-- `line_end` is the place of the first newline, and the length of a piece that has none. Assumes nothing.
+use Rattle.std.proofs.Common.{rules, ◌≡◌, ◌∙◌, sym, refl}
+use Rattle.std.proofs.lemmas.Iterator.{IsFirst-from_position, YieldsList-from_slice, index_from_first}
+use borrow.Author.Tests.{tests}
+use Rattle.lines.specs.Lines.{line_end, newline}
+use Rattle.lines.proofs.Ends.{end_here, end-next}
 use Rattle.lines.proofs.line_end.Goals as goal
 
-pub returns-then-piece-i-eq-NEWLINE : goal.returns-then-piece-i-eq-NEWLINE
-returns-then-piece-i-eq-NEWLINE c =
-    let here = end_here c.args.piece.now c.loop-i.i (omega arith) c.if-piece-i-eq-NEWLINE.true in
-    record {
-      value = omega (arith, c.loop-i.invariant);
-      upper_bound = omega (arith, c.loop-i.invariant);
-    }
-
-pub loop-i-preserved : goal.loop-i-preserved
-loop-i-preserved c =
-    let next = end-next c.args.piece.now c.loop-i.i (omega arith) c.if-piece-i-eq-NEWLINE.false in
-    omega (arith, c.loop-i.invariant)
-
-pub returns : goal.returns
-returns c =
-    let last = end_last c.args.piece.now c.loop-i.i (omega arith) in
-    omega (arith, c.loop-i.invariant)
+pub returns-clause-value : goal.returns-clause-value
+unfolding line_end
+returns-clause-value c =
+    let piece = c.args.piece.now in
+    let slice = YieldsList-from_slice piece cc in
+    let first = IsFirst-from_position _ _ _ (λ b. b ≡ newline) (λ b. b ≡ newline → ⊥) c.position.ensures.ran slice (λ x q k. search (rules, tests)) (λ x q k. search (rules, tests)) in
+    c.unwrap_or.ensures ∙ sym (index_from_first line_end (λ b. b ≡ newline) (λ b. b ≡ newline → ⊥) refl end_here end-next piece c.position.result first)

@@ -1,50 +1,44 @@
--- `one_field` asks for the marks in the definition's order; each answer is told by the marks asked for so far.
-use mathlib.Core.Path.{◌≡◌, sym, ◌∙◌}
-use mathlib.Core.Bool.{true, false}
+-- `one_field`: a piece of a mark's two bytes is the mark, and any other is none. The arms are told apart by the bytes.
+use mathlib.Core.Path.{refl}
+use native.Mathlib.Omega.{arith}
 use Rattle.rules.specs.Checked.{same}
-use Rattle.text.specs.Grammar.{one_field, mark_co, mark_wd, mark_rl, mark_ad}
+use Rattle.text.specs.Grammar.{one_field}
+use Rattle.text.proofs.Marks.{mark_is, no_one_field}
 use Rattle.text.proofs.read.one_field.Goals as goal
 
-pub returns-then-is_mark : goal.returns-then-is_mark
-unfolding one_field
-returns-then-is_mark c =
-    let mark = c.args.mark.now in
-    let is-CO : same mark mark_co ≡ true = sym c.is_mark.ensures ∙ c.if-is_mark.true in
-    rw is-CO
+pub returns-in-CO : goal.returns-in-CO
+unfolding one_field same
+returns-in-CO c = rw (mark_is c.args.mark.now 67 79 (omega arith) (omega arith) (omega arith)) refl
 
-pub returns-then-is_mark-2 : goal.returns-then-is_mark-2
-unfolding one_field
-returns-then-is_mark-2 c =
-    let mark = c.args.mark.now in
-    let is-CO : same mark mark_co ≡ false = sym c.is_mark.ensures ∙ c.if-is_mark.false in
-    let is-WD : same mark mark_wd ≡ true = sym c.is_mark-2.ensures ∙ c.if-is_mark-2.true in
-    rw (is-CO, is-WD)
+pub returns-in-WD : goal.returns-in-WD
+unfolding one_field same
+returns-in-WD c = rw (mark_is c.args.mark.now 87 68 (omega arith) (omega arith) (omega arith)) refl
 
-pub returns-then-is_mark-3 : goal.returns-then-is_mark-3
-unfolding one_field
-returns-then-is_mark-3 c =
-    let mark = c.args.mark.now in
-    let is-CO : same mark mark_co ≡ false = sym c.is_mark.ensures ∙ c.if-is_mark.false in
-    let is-WD : same mark mark_wd ≡ false = sym c.is_mark-2.ensures ∙ c.if-is_mark-2.false in
-    let is-RL : same mark mark_rl ≡ true = sym c.is_mark-3.ensures ∙ c.if-is_mark-3.true in
-    rw (is-CO, is-WD, is-RL)
+pub returns-in-RL : goal.returns-in-RL
+unfolding one_field same
+returns-in-RL c = rw (mark_is c.args.mark.now 82 76 (omega arith) (omega arith) (omega arith)) refl
 
-pub returns-then-is_mark-4 : goal.returns-then-is_mark-4
-unfolding one_field
-returns-then-is_mark-4 c =
-    let mark = c.args.mark.now in
-    let is-CO : same mark mark_co ≡ false = sym c.is_mark.ensures ∙ c.if-is_mark.false in
-    let is-WD : same mark mark_wd ≡ false = sym c.is_mark-2.ensures ∙ c.if-is_mark-2.false in
-    let is-RL : same mark mark_rl ≡ false = sym c.is_mark-3.ensures ∙ c.if-is_mark-3.false in
-    let is-AD : same mark mark_ad ≡ true = sym c.is_mark-4.ensures ∙ c.if-is_mark-4.true in
-    rw (is-CO, is-WD, is-RL, is-AD)
+pub returns-in-AD : goal.returns-in-AD
+unfolding one_field same
+returns-in-AD c = rw (mark_is c.args.mark.now 65 68 (omega arith) (omega arith) (omega arith)) refl
 
-pub returns : goal.returns
-unfolding one_field
-returns c =
-    let mark = c.args.mark.now in
-    let is-CO : same mark mark_co ≡ false = sym c.is_mark.ensures ∙ c.if-is_mark.false in
-    let is-WD : same mark mark_wd ≡ false = sym c.is_mark-2.ensures ∙ c.if-is_mark-2.false in
-    let is-RL : same mark mark_rl ≡ false = sym c.is_mark-3.ensures ∙ c.if-is_mark-3.false in
-    let is-AD : same mark mark_ad ≡ false = sym c.is_mark-4.ensures ∙ c.if-is_mark-4.false in
-    rw (is-CO, is-WD, is-RL, is-AD)
+pub returns-in_default : goal.returns-in_default
+returns-in_default c = no_one_field c.args.mark.now c.args.v (λ l a b. omega arith) (λ l a b. omega arith) (λ l a b. omega arith) (λ l a b. omega arith)
+
+pub returns-in_default-2 : goal.returns-in_default-2
+returns-in_default-2 c = no_one_field c.args.mark.now c.args.v (λ l a b. omega arith) (λ l a b. omega arith) (λ l a b. omega arith) (λ l a b. omega arith)
+
+pub returns-in_default-3 : goal.returns-in_default-3
+returns-in_default-3 c = no_one_field c.args.mark.now c.args.v (λ l a b. omega arith) (λ l a b. omega arith) (λ l a b. omega arith) (λ l a b. omega arith)
+
+pub returns-in_default-4 : goal.returns-in_default-4
+returns-in_default-4 c = no_one_field c.args.mark.now c.args.v (λ l a b. omega arith) (λ l a b. omega arith) (λ l a b. omega arith) (λ l a b. omega arith)
+
+pub returns-in_default-5 : goal.returns-in_default-5
+returns-in_default-5 c = no_one_field c.args.mark.now c.args.v (λ l a b. omega arith) (λ l a b. omega arith) (λ l a b. omega arith) (λ l a b. omega arith)
+
+pub returns-in_default-6 : goal.returns-in_default-6
+returns-in_default-6 c = no_one_field c.args.mark.now c.args.v (λ l a b. omega arith) (λ l a b. omega arith) (λ l a b. omega arith) (λ l a b. omega arith)
+
+pub returns-in_default-7 : goal.returns-in_default-7
+returns-in_default-7 c = no_one_field c.args.mark.now c.args.v (λ l a b. omega arith) (λ l a b. omega arith) (λ l a b. omega arith) (λ l a b. omega arith)
