@@ -6,6 +6,7 @@ use Rattle.calls.specs.Called.{answer_of, Left, leaves}
 use Rattle.planner.specs.declared.Next.{Next}
 use Rattle.planner.specs.Struct.{leaves_by}
 use Rattle.script.specs.Drilled.{printed, Printable}
+use Rattle.script.proofs.Printable.{called_printable, opening_printable}
 
 module _ (next : Next) (words lent : List ℕ) {l : Left} (e : leaves_by next words lent ≡ l) where
   -- its answer can be printed
@@ -22,3 +23,6 @@ module _ (next : Next) (words lent : List ℕ) {l : Left} (e : leaves_by next wo
   pub left_shown : printed (leaves_by next words lent) lent ≡ printed l l.buffer
   unfolding printed leaves
   left_shown = ap (λ k. printed k k.buffer) e
+
+-- what a call's step is shown by
+pub ruleset steps = (left_printable, left_printed, left_shown, called_printable, opening_printable)

@@ -74,7 +74,7 @@ pub fn malformed(p: Planner, out: &mut [u8]) -> Reply
 }
 
 // The call that a command says. Only an advance is lent the segment buffer.
-#[tactic(auto, using(crate::proofs::Answering::left_printable, crate::proofs::Answering::left_printed, crate::proofs::Answering::left_shown, crate::proofs::Printable::called_printable, crate::proofs::Printable::opening_printable), unfolding(crate::specs::Drilled::answered))]
+#[tactic(auto, using(crate::proofs::Answering::steps), unfolding(crate::specs::Drilled::answered))]
 fn call(p: Planner, shares: &mut [u32], segments: &mut [u64], command: Command) -> Next
     ensures printable { Printable (answer_of result.answer) }
     ensures printed { printed (leaves_by result shares.new segments.new) segments.new
@@ -90,6 +90,7 @@ fn call(p: Planner, shares: &mut [u32], segments: &mut [u64], command: Command) 
 }
 
 // A command, answered.
+#[tactic(auto, unfolding(crate::specs::Drilled::printed, calls::specs::Called::leaves))]
 fn answer_command(
     p: Planner,
     shares: &mut [u32],
@@ -108,6 +109,7 @@ fn answer_command(
 }
 
 // A line, answered: the state that follows, the words lent, and the text at the front of the output.
+#[tactic(auto, unfolding(crate::specs::Drilled::drilled, crate::specs::Drilled::answered))]
 pub fn answer_line(
     p: Planner,
     shares: &mut [u32],
