@@ -2,65 +2,28 @@
 // A line for each answer: `OK value count` or `NO number`; for holder `HELD slot until`, `IDLE until`, `IDLE` or `NO number`.
 #![tactic(auto)]
 
-use calls::Answer;
+use calls::Done;
 use planner::{Next, Planner};
-use rules::{LAST_TICK, SEGMENT_WORDS, SHARE_WORDS};
+use rules::{LAST_TICK, Refusal, SEGMENT_WORDS, SHARE_WORDS};
 use std::io;
 use wrap::look::Holder;
 
-fn number(rt: &impl Print, n: u64) -> io::Result<()> {
-    print!(rt; " {n}")
-}
-
-fn end(rt: &impl Print) -> io::Result<()> {
-    println!(rt; "")
-}
-
-fn heading(rt: &impl Print, text: &str) -> io::Result<()> {
-    println!(rt; "{text}")
-}
-
-fn say(rt: &impl Print, answer: Answer) -> io::Result<()> {
-    match answer {
-        Answer::Done(value, count) => {
-            print!(rt; "OK")?;
-            number(rt, value)?;
-            number(rt, count)?;
-        }
-        Answer::Refused(n) => {
-            print!(rt; "NO")?;
-            number(rt, n)?;
-        }
-    }
-    end(rt)
-}
-
-fn tell(rt: &impl Print, holder: Holder) -> io::Result<()> {
-    match holder {
-        Holder::Held(slot, until) => {
-            print!(rt; "HELD")?;
-            number(rt, slot)?;
-            number(rt, until)?;
-        }
-        Holder::IdleUntil(grain) => {
-            print!(rt; "IDLE")?;
-            number(rt, grain)?;
-        }
-        Holder::Idle => {
-            print!(rt; "IDLE")?;
-        }
-        Holder::Refused(n) => {
-            print!(rt; "NO")?;
-            number(rt, n)?;
-        }
-    }
-    end(rt)
-}
-
 // What a call answers, printed; the state that it hands back.
 fn told(rt: &impl Print, next: Next) -> io::Result<Planner> {
-    say(rt, next.answer)?;
+    match next.answer {
+        Ok(Done { value, count }) => println!(rt; "OK {value} {count}")?,
+        Err(refusal) => println!(rt; "NO {}", refusal.number())?,
+    }
     Ok(next.planner)
+}
+
+fn tell(rt: &impl Print, holder: Result<Holder, Refusal>) -> io::Result<()> {
+    match holder {
+        Ok(Holder::Held { slot, until }) => println!(rt; "HELD {slot} {until}"),
+        Ok(Holder::IdleUntil(grain)) => println!(rt; "IDLE {grain}"),
+        Ok(Holder::Idle) => println!(rt; "IDLE"),
+        Err(refusal) => println!(rt; "NO {}", refusal.number()),
+    }
 }
 
 // A board of so many cores, freshly opened.
@@ -71,7 +34,7 @@ fn opened(rt: &impl Print, shares: &mut [u32], cores: u64) -> io::Result<Planner
 // "With nothing pending, an advance to 2 to the 40th is accepted, one tick more is refused 10; a release there is refused 10; a
 // release of period 1 one tick earlier is accepted."
 fn last_tick(rt: &impl Print) -> io::Result<()> {
-    heading(rt, "the last tick")?;
+    println!(rt; "the last tick")?;
     let mut shares = [0u32; SHARE_WORDS];
     let mut segments = [0u64; SEGMENT_WORDS];
     let p = told(rt, opened(rt, &mut shares, 1)?.declare(&shares, 1, 1))?;
@@ -92,20 +55,18 @@ fn one_tick_earlier(rt: &impl Print) -> io::Result<()> {
 
 // "The 64th declare is accepted if rates allow, the 65th is refused 5."
 fn full_board(rt: &impl Print) -> io::Result<()> {
-    heading(rt, "a full board")?;
+    println!(rt; "a full board")?;
     let mut shares = [0u32; SHARE_WORDS];
     let mut p = opened(rt, &mut shares, 1)?;
-    let mut declared: usize = 0;
-    while declared < 65 {
+    for _ in 0..65 {
         p = told(rt, p.declare(&shares, 1, 1))?;
-        declared += 1;
     }
     Ok(())
 }
 
 // "320 words pass, 319 are refused 12."
 fn buffers(rt: &impl Print) -> io::Result<()> {
-    heading(rt, "320 and 319 words")?;
+    println!(rt; "320 and 319 words")?;
     let mut shares = [0u32; SHARE_WORDS];
     let mut enough = [0u64; SEGMENT_WORDS];
     let mut short = [0u64; SEGMENT_WORDS - 1];
@@ -115,39 +76,46 @@ fn buffers(rt: &impl Print) -> io::Result<()> {
     Ok(())
 }
 
-// The three tasks of P6.
-fn declared(rt: &impl Print, p: Planner, shares: &[u32]) -> io::Result<Planner> {
-    let a = told(rt, p.declare(shares, 3, 1998))?;
-    let b = told(rt, a.declare(shares, 3, 1998))?;
-    told(rt, b.declare(shares, 3, 1998))
+// The three tasks of P6, and a job of each.
+fn declared(rt: &impl Print, mut p: Planner, shares: &[u32]) -> io::Result<Planner> {
+    for _ in 0..3 {
+        p = told(rt, p.declare(shares, 3, 1998))?;
+    }
+    Ok(p)
+}
+
+fn released(rt: &impl Print, mut p: Planner, shares: &mut [u32]) -> io::Result<Planner> {
+    for slot in 0..3 {
+        p = told(rt, p.release(shares, slot))?;
+    }
+    Ok(p)
 }
 
 fn each_core(rt: &impl Print, p: Planner, shares: &[u32]) -> io::Result<()> {
-    tell(rt, p.holder(shares, 0))?;
-    tell(rt, p.holder(shares, 1))?;
-    tell(rt, p.holder(shares, 2))?;
-    tell(rt, p.holder(shares, 3))
+    for core in 0..4 {
+        tell(rt, p.holder(shares, core))?;
+    }
+    Ok(())
 }
 
 // Holder on P6, with a core to spare: idle with nothing pending, held and idle at both clocks, and no such core.
 fn holders(rt: &impl Print) -> io::Result<()> {
-    heading(rt, "holder")?;
+    println!(rt; "holder")?;
     let mut shares = [0u32; SHARE_WORDS];
     let mut segments = [0u64; SEGMENT_WORDS];
     let p = opened(rt, &mut shares, 3)?;
     tell(rt, p.holder(&shares, 0))?;
-    let d = told(rt, declared(rt, p, &shares)?.release(&mut shares, 0))?;
-    let e = told(rt, d.release(&mut shares, 1))?;
-    let f = told(rt, e.release(&mut shares, 2))?;
-    each_core(rt, f, &shares)?;
-    let g = told(rt, f.advance(&mut shares, 2, &mut segments))?;
-    tell(rt, g.holder(&shares, 0))?;
-    tell(rt, g.holder(&shares, 1))
+    let d = declared(rt, p, &shares)?;
+    let r = released(rt, d, &mut shares)?;
+    each_core(rt, r, &shares)?;
+    let q = told(rt, r.advance(&mut shares, 2, &mut segments))?;
+    tell(rt, q.holder(&shares, 0))?;
+    tell(rt, q.holder(&shares, 1))
 }
 
 // 4,095, 4,096 and 5,000 words of shares lent, and a planner that was never opened.
 fn lengths(rt: &impl Print) -> io::Result<()> {
-    heading(rt, "words lent")?;
+    println!(rt; "words lent")?;
     let mut short = [0u32; SHARE_WORDS - 1];
     let mut table = [0u32; SHARE_WORDS];
     let mut more = [7u32; 5000];

@@ -6,6 +6,7 @@ use mathlib.Core.List.{List, [], ◌∷◌, ◌++◌}
 use Prim.Native.Nat.{ℕ}
 use native.Mathlib.Omega.{arith}
 use lib.ListN.{length, drop}
+use Rattle.std.specs.Prelude.{Some}
 use Rattle.rules.specs.Station.{share_words}
 use Rattle.rules.specs.Calls.{Call, declare, release, advance, opened, segment_words}
 use Rattle.rules.specs.Checked.{lines}
@@ -83,7 +84,7 @@ first-line : lines_of input ≡ opens ∷ drop 1 (lines_of input)
 unfolding texts
 first-line = refl
 
-opens_says : command_of opens ≡ Open 1
+opens_says : command_of opens ≡ Some (Open 1)
 unfolding texts rules
 opens_says = refl
 

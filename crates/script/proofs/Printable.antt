@@ -5,6 +5,7 @@ use mathlib.Core.List.{List, [], ◌∷◌, ◌++◌}
 use Prim.Native.Nat.{ℕ, zero, suc, ◌-◌, ◌≤◌, ◌<◌}
 use native.Mathlib.Omega.{arith}
 use lib.ListN.{length, take, get_or}
+use Rattle.std.proofs.lemmas.List.{length-take}
 use Rattle.rules.specs.Station.{Slice, Table, grains, most_cores}
 use Rattle.rules.specs.Sound.{Sound}
 use Rattle.rules.specs.Wrap.{Window, wrap_of, clipped, window, segments_to}
@@ -52,7 +53,7 @@ module _ (t : Table) (sound : Sound t) where
       let k = front there some in
       let is : segments_to t to ≡ shown (grains held.state.start) (grains (held.state.clock - held.state.start)) (grains (to - held.state.start)) (grains (get_or (ends_of held.lists) 0 0 - held.state.start)) (take 64 words) =
       ap (λ u. segments_to u to) (sym back) ∙ segments-shown there some to in
-      rw is (omega (arith, wrap-most (record { base = grains held.state.start; from = grains (held.state.clock - held.state.start); to = grains (to - held.state.start) }) k.laid.some most_cores (take 64 words) (omega arith) k.fits, k.laid.long))
+      rw is (omega (arith, wrap-most (record { base = grains held.state.start; from = grains (held.state.clock - held.state.start); to = grains (to - held.state.start) }) k.laid.some most_cores (take 64 words) (omega arith) k.fits, length-take 64 words))
 
   none_held : (to : ℕ) → held.state.count ≤ 0 → length (segments_to t to) ≤ most_segments
   unfolding planner_of state_of segments_to

@@ -4,18 +4,45 @@ use mathlib.Core.List.{List, [], ◌++◌}
 use Prim.Native.Nat.{ℕ, zero, suc, ◌+◌, ◌-◌, ◌*◌, ◌≤◌, ◌<◌}
 use native.Mathlib.Nat.{sub_self, sub-zero}
 use native.Mathlib.Omega.{arith}
-use lib.ListN.{length, drop, length-append}
-use lib.Seq.{drop-drop}
+use lib.ListN.{length, take, drop, get_or, length-append}
+use lib.Seq.{drop-drop, get_or-take}
 use borrow.Author.Tests.{ne_eqb}
+use Rattle.std.specs.Prelude.{Err}
+use Rattle.std.specs.Simd.{first_chunks}
+use Rattle.rules.specs.declared.Refusal.{Refusal}
+use Rattle.rules.specs.Numbers.{number_of}
 use Rattle.rules.specs.Calls.{refusal}
+use Rattle.rules.proofs.Numbers.{number_some}
 use Rattle.wrap.specs.Asked.{most_segments}
-use Rattle.calls.specs.declared.Answer.{Answer}
-use Rattle.calls.specs.declared.Answer.TheVariants.{Done, Refused}
-use Rattle.calls.specs.Called.{answer_of}
+use Rattle.calls.specs.Called.{did, answer_of}
 use Rattle.text.specs.Grammar.{ok_text, no_text, put_at}
 use Rattle.text.proofs.Promises.{ok_length, no_length, sg_length}
-use Rattle.script.specs.Drilled.{segment_text, segment_texts, answer_text, Printable, Printed}
+use Rattle.script.specs.Drilled.{segment_text, segment_texts, answer_text, Printed}
 use Rattle.script.proofs.Placed.{put_none, put_front, put_more, put_length}
+
+-- of a segment its four words are printed
+pub segment_whole : (buffer : List ℕ) → segment_text (take 4 buffer) ≡ segment_text buffer
+unfolding segment_text
+segment_whole buffer =
+    let zeroth : 0 < 4 = omega arith in
+    let first : 1 < 4 = omega arith in
+    let second : 2 < 4 = omega arith in
+    let third : 3 < 4 = omega arith in
+    simp (get_or-take, zeroth, first, second, third)
+
+-- chunk k of a buffer
+pub chunk_at : (count k : ℕ) (buffer : List ℕ) (other : List ℕ) → k < count → get_or (first_chunks 4 count buffer) k other ≡ take 4 (drop (4 * k) buffer)
+chunk_at zero k buffer other less = absurd (omega arith)
+chunk_at (suc count) zero buffer other less = refl
+chunk_at (suc count) (suc k) buffer other less =
+    let on : 4 + 4 * k ≡ 4 * suc k = omega arith in
+    chunk_at count k (drop 4 buffer) other (omega arith) ∙ ap (take 4) (drop-drop (4 * k) 4 buffer ∙ ap (λ n. drop n buffer) on)
+
+-- what is printed of one of the first `count` chunks
+pub chunk_text : {chunks : List (List ℕ)} (count n k : ℕ) (buffer : List ℕ) → chunks ≡ first_chunks 4 n buffer → k < count → k < n
+    → segment_text (get_or (take count chunks) k []) ≡ segment_text (drop (4 * k) buffer)
+chunk_text count n k buffer e less inside =
+    ap segment_text (rw e (get_or-take count (first_chunks 4 n buffer) k [] less) ∙ chunk_at n k buffer [] inside) ∙ segment_whole (drop (4 * k) buffer)
 
 segment_short : (buffer : List ℕ) → length (segment_text buffer) ≤ 87
 unfolding segment_text
@@ -67,43 +94,28 @@ printing_all {buffer} {was} {count} {at} {end} {is} p =
     let none : left count count buffer ≡ [] = rw (sub_self count) in
     (omega (arith, rw none at p.place), sym (put_none end is) ∙ (rw none at p.whole))
 
--- an answer by the planner's own cases
-pub refused-number : (n : ℕ) → Printable (answer_of (Refused n)) → n ≡ (answer_of (Refused n)).number
-unfolding answer_of refusal
-refused-number zero p = absurd (omega (arith, p.plain (omega arith)))
-refused-number (suc n) p = refl
-
-refused_above : (n : ℕ) → 0 < (answer_of (Refused n)).number
-unfolding answer_of refusal
-refused_above zero = omega arith
-refused_above (suc n) = omega arith
-
 -- a refusal's number at the front
 pub number-printed : (number : ℕ) (was : List ℕ) {r : ℕ} {is : List ℕ} → r ≡ 0 + length (no_text number) → is ≡ put_at 0 (no_text number) was → Printed (no_text number) r was is
 number-printed number was {r} size now =
     let used : r ≡ length (no_text number) = omega arith in
     record { size = used; short = omega (arith, no_length number); bytes = now ∙ put_front (no_text number) was ∙ ap (λ k. no_text number ++ drop k was) (sym used) }
 
-module _ {answer : Answer} (buffer was : List ℕ) where
+module _ (buffer was : List ℕ) where
   -- a refusal is its number
-  pub refused-printed : {n number r : ℕ} {is : List ℕ} → answer ≡ Refused n → number ≡ (answer_of answer).number → r ≡ 0 + length (no_text number) → is ≡ put_at 0 (no_text number) was
-      → Printed (answer_text (answer_of answer) buffer) r was is
-  unfolding answer_text
-  refused-printed {n} {number} {r} {is} refused to size now =
-      let other : (answer_of answer).number ≡ 0 → ⊥ = λ z. let above = rw (← refused) at (refused_above n) in omega arith in
-      rw (ne_eqb (answer_of answer).number 0 other, ← to) (number-printed number was size now)
+  pub refused-printed : (refused : Refusal) {r : ℕ} {is : List ℕ} → r ≡ 0 + length (no_text (number_of refused)) → is ≡ put_at 0 (no_text (number_of refused)) was
+      → Printed (answer_text (answer_of (Err refused)) buffer) r was is
+  unfolding answer_text answer_of refusal
+  refused-printed refused {r} {is} size now =
+      let other : number_of refused ≡ 0 → ⊥ = λ z. let some = number_some refused in omega arith in
+      rw (ne_eqb (number_of refused) 0 other) (number-printed (number_of refused) was size now)
 
   -- an accepted call is its value, and then the segments
-  pub done-printed : {value count at r : ℕ} {mid is : List ℕ} → answer ≡ Done value count → count ≤ most_segments → at ≡ 0 + length (ok_text value) → mid ≡ put_at 0 (ok_text value) was
+  pub done-printed : (value count : ℕ) {at r : ℕ} {mid is : List ℕ} → count ≤ most_segments → at ≡ 0 + length (ok_text value) → mid ≡ put_at 0 (ok_text value) was
       → r ≡ at + length (segment_texts count buffer) → is ≡ put_at at (segment_texts count buffer) mid → r ≤ at + 87 * count
-      → Printed (answer_text (answer_of answer) buffer) r was is
+      → Printed (answer_text (answer_of (did value count)) buffer) r was is
   unfolding answer_text answer_of
-  done-printed {value} {count} {at} {r} {mid} {is} done few first begun size now short =
+  done-printed value count {at} {r} {mid} {is} few first begun size now short =
       let text = ok_text value ++ segment_texts count buffer in
       let used : r ≡ length text = rw (length-append (ok_text value) (segment_texts count buffer)) (omega arith) in
       let both : is ≡ put_at 0 text was = rw (now, first, begun) (put_more 0 (ok_text value) was (omega arith) (segment_texts count buffer)) in
-      rw done (record { size = used; short = omega (arith, ok_length value); bytes = both ∙ put_front text was ∙ ap (λ k. text ++ drop k was) (sym used) })
-
-pub done-few : {answer : Answer} {value count : ℕ} → answer ≡ Done value count → Printable (answer_of answer) → count ≤ most_segments
-unfolding answer_of
-done-few done p = (rw done at p).few
+      record { size = used; short = omega (arith, ok_length value); bytes = both ∙ put_front text was ∙ ap (λ k. text ++ drop k was) (sym used) }

@@ -9,6 +9,7 @@ use native.Mathlib.Omega.{arith}
 use lib.Seq.{take_at}
 use lib.ListN.{length, take, drop, length-append, length-drop}
 use borrow.Author.Tests.{le-ltb, lt-ltb, ne_eqb}
+use Rattle.std.specs.Prelude.{Option, Some, None}
 use Rattle.rules.specs.Station.{share_words}
 use Rattle.rules.specs.Calls.{Call, declare, withdraw, release, advance, refusal, refused, open_refusals, opened, done, segment_words}
 use Rattle.rules.specs.Words.{words_of}
@@ -23,7 +24,7 @@ use Rattle.calls.proofs.Called.{called-unsound}
 use Rattle.calls.proofs.Opening.{blank_unsound, open_refused as refused-open}
 use Rattle.calls.proofs.Round.{same-table, words-length, still-sound}
 use Rattle.text.specs.declared.Command.{Command}
-use Rattle.text.specs.declared.Command.TheVariants.{Open, Declare, Withdraw, Release, Advance, Malformed}
+use Rattle.text.specs.declared.Command.TheVariants.{Open, Declare, Withdraw, Release, Advance}
 use Rattle.text.specs.Grammar.{command_of, ok_text, no_text}
 use Rattle.script.specs.declared.Reply.{Reply}
 use Rattle.script.specs.declared.Fed.{Fed}
@@ -65,7 +66,7 @@ abbrev pub told_only : Planner → List ℕ → List ℕ → ℕ → Drilled
 told_only p words buffer number = record { planner = p; words = words; buffer = buffer; text = no_text number }
 
 -- A malformed line answers 14 before any other reason, whatever the state, and changes nothing.
-pub malformed_first : (p : Planner) (words buffer line : List ℕ) → command_of line ≡ Malformed → drilled p words buffer line ≡ told_only p words buffer 14
+pub malformed_first : (p : Planner) (words buffer line : List ℕ) → command_of line ≡ None → drilled p words buffer line ≡ told_only p words buffer 14
 unfolding drilled answered
 malformed_first p words buffer line e = rw e
 
@@ -81,24 +82,24 @@ blank_buffer : (words buffer : List ℕ) (call : Call) → (called blank_planner
 unfolding unchanged
 blank_buffer words buffer call = sym (ap (λ l. l.buffer) (called-unsound blank_planner words buffer call (blank_unsound words)))
 
-blank_answered : (words buffer : List ℕ) (c : Command) → (c ≡ Malformed → ⊥) → ((cores : ℕ) → c ≡ Open cores → ⊥) → answered blank_planner words buffer c ≡ told_only blank_planner words buffer 1
+blank_answered : (words buffer : List ℕ) (c : Option Command) → (c ≡ None → ⊥) → ((cores : ℕ) → c ≡ Some (Open cores) → ⊥) → answered blank_planner words buffer c ≡ told_only blank_planner words buffer 1
 unfolding answered
-blank_answered words buffer (Open cores) well other = absurd (other cores refl)
-blank_answered words buffer (Declare period cost) well other = blank_told words [] buffer (declare period cost)
-blank_answered words buffer (Withdraw slot) well other = blank_told words [] buffer (withdraw slot)
-blank_answered words buffer (Release slot) well other = blank_told words [] buffer (release slot)
-blank_answered words buffer (Advance tick) well other =
+blank_answered words buffer (Some (Open cores)) well other = absurd (other cores refl)
+blank_answered words buffer (Some (Declare period cost)) well other = blank_told words [] buffer (declare period cost)
+blank_answered words buffer (Some (Withdraw slot)) well other = blank_told words [] buffer (withdraw slot)
+blank_answered words buffer (Some (Release slot)) well other = blank_told words [] buffer (release slot)
+blank_answered words buffer (Some (Advance tick)) well other =
     let call = advance tick (length buffer) in
     ap (printed (called blank_planner words buffer call)) (blank_buffer words buffer call) ∙ blank_told words buffer buffer call
-blank_answered words buffer Malformed well other = absurd (well refl)
+blank_answered words buffer None well other = absurd (well refl)
 
 -- Before the first accepted `CO`, every other well-formed command answers 1 and changes nothing.
-pub before_open : (words buffer line : List ℕ) → (command_of line ≡ Malformed → ⊥) → ((cores : ℕ) → command_of line ≡ Open cores → ⊥)
+pub before_open : (words buffer line : List ℕ) → (command_of line ≡ None → ⊥) → ((cores : ℕ) → command_of line ≡ Some (Open cores) → ⊥)
     → drilled blank_planner words buffer line ≡ told_only blank_planner words buffer 1
 unfolding drilled
 before_open words buffer line well other = blank_answered words buffer (command_of line) well other
 
-module _ (p : Planner) (words buffer line : List ℕ) (cores : ℕ) (says : command_of line ≡ Open cores) (room : share_words ≤ length words) where
+module _ (p : Planner) (words buffer line : List ℕ) (cores : ℕ) (says : command_of line ≡ Some (Open cores)) (room : share_words ≤ length words) where
   -- An accepted `CO` opens afresh, whatever was there: a fresh table, all 4,096 words zero.
   pub opens_afresh : 1 ≤ cores → cores ≤ 16
       → drilled p words buffer line ≡ record { planner = planner_of (opened cores); words = words_of (opened cores) ++ drop share_words words; buffer = buffer; text = ok_text cores }
@@ -122,7 +123,7 @@ pub prints_the_rules : (p : Planner) (words buffer : List ℕ) → is_sound_in p
 prints_the_rules p words buffer ok long room calls ls says = rules_script p words buffer [] (record { ok = ok; long = long; room = room }) calls ls says
 
 -- The same after a line that opens the table, whatever was there before it.
-pub prints_from_open : (p : Planner) (words buffer line : List ℕ) (cores : ℕ) → command_of line ≡ Open cores → 1 ≤ cores → cores ≤ 16
+pub prints_from_open : (p : Planner) (words buffer line : List ℕ) (cores : ℕ) → command_of line ≡ Some (Open cores) → 1 ≤ cores → cores ≤ 16
     → share_words ≤ length words → segment_words ≤ length buffer → (calls : List Call) (ls : List (List ℕ)) → commands_of ls ≡ sayings calls
     → (scripted (silent p words buffer) (line ∷ ls)).text ≡ ok_text cores ++ lines_text (lines (outcomes (length words) (opened cores) (lent_all (length buffer) calls)))
 unfolding scripted next

@@ -7,6 +7,7 @@ use native.Mathlib.Omega.{arith}
 use lib.Dec.{eqb}
 use lib.ListN.{length, drop, length-append, length-drop}
 use borrow.Author.Tests.{eqb-false}
+use Rattle.std.specs.Prelude.{Some}
 use Rattle.rules.specs.Station.{Table, share_words}
 use Rattle.rules.specs.Wrap.{Segment}
 use Rattle.rules.specs.Calls.{Call, declare, withdraw, release, advance, Outcome, refusal, done, accepted, step, segment_words}
@@ -95,7 +96,7 @@ module _ (p : Planner) (words buffer : List ℕ) (ok : is_sound_in p words ≡ t
       rw (left_is buffer call) (ap (state (planner_of o.table) (words_of o.table ++ drop share_words words) (written o.segments buffer)) (text_of o buffer (step_counted (length words) (table_of p words) call)))
 
   -- one command
-  pub rules_step : (call : Call) → answered p words buffer (saying call) ≡ drilled_as words buffer (step (length words) (table_of p words) (lent (length buffer) call))
+  pub rules_step : (call : Call) → answered p words buffer (Some (saying call)) ≡ drilled_as words buffer (step (length words) (table_of p words) (lent (length buffer) call))
   unfolding answered saying lent accepted done
   rules_step (declare period cost) = plain_step (declare period cost) refl
   rules_step (withdraw slot) = plain_step (withdraw slot) refl
@@ -155,7 +156,7 @@ module _ {p : Planner} {words buffer : List ℕ} (r : Ready p words buffer) (cal
   }
 
 -- one line, and then the rest
-next-line : (p : Planner) (words buffer text : List ℕ) → Ready p words buffer → (call : Call) (line : List ℕ) → command_of line ≡ saying call
+next-line : (p : Planner) (words buffer text : List ℕ) → Ready p words buffer → (call : Call) (line : List ℕ) → command_of line ≡ Some (saying call)
     → next (state p words buffer text) line ≡ (let o = step (length words) (table_of p words) (lent (length buffer) call) in
     state (planner_of o.table) (words_of o.table ++ drop share_words words) (written o.segments buffer) (text ++ lines_text (lines (o ∷ []))))
 unfolding next drilled
@@ -169,7 +170,7 @@ rules_script p words buffer text r [] [] e = sym (append-nil text)
 rules_script p words buffer text r [] (l ∷ ls) e = let x = ap length e in absurd (omega arith)
 rules_script p words buffer text r (c ∷ cs) [] e = let x = ap length e in absurd (omega arith)
 rules_script p words buffer text r (c ∷ cs) (l ∷ ls) e =
-    let head : command_of l ≡ saying c = cc in
+    let head : command_of l ≡ Some (saying c) = cc in
     let tail : commands_of ls ≡ sayings cs = cc in
     let call = lent (length buffer) c in
     let o = step (length words) (table_of p words) call in

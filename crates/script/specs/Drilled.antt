@@ -1,12 +1,12 @@
 -- What the drill does with one line: document 01, 'The drill program', through the contracts of the planner's calls.
-use Rattle.std.specs.Prelude.{◌≡◌, cond, List, [], ◌++◌, ℕ, zero, suc, ◌≤◌, ◌<◌, eqb, length, drop, get_or}
+use Rattle.std.specs.Prelude.{◌≡◌, Option, Some, None, cond, List, [], ◌++◌, ℕ, zero, suc, ◌≤◌, ◌<◌, eqb, length, drop, get_or}
 use Rattle.rules.specs.Calls.{Answer as Handed, declare, withdraw, release, advance}
 use Rattle.rules.specs.Held.{Planner}
 use Rattle.wrap.specs.Asked.{most_segments}
 use Rattle.calls.specs.Called.{Left, called, opening}
 use Rattle.planner.specs.Struct.{in_struct}
 use Rattle.text.specs.declared.Command.{Command}
-use Rattle.text.specs.declared.Command.TheVariants.{Open, Declare, Withdraw, Release, Advance, Malformed}
+use Rattle.text.specs.declared.Command.TheVariants.{Open, Declare, Withdraw, Release, Advance}
 use Rattle.text.specs.Grammar.{command_of, ok_text, no_text, sg_text}
 use Rattle.script.specs.declared.Reply.{Reply}
 
@@ -38,14 +38,14 @@ unfoldable pub printed : Left → List ℕ → Drilled
 printed l b = record { planner = l.planner; words = l.words; buffer = b; text = answer_text l.answer b }
 
 -- The step of one command. Only an advance is lent the segment buffer.
-unfoldable pub answered : Planner → List ℕ → List ℕ → Command → Drilled
-answered p words buffer (Open cores) = printed (opening p words cores) buffer
-answered p words buffer (Declare period cost) = printed (called p words [] (declare period cost)) buffer
-answered p words buffer (Withdraw slot) = printed (called p words [] (withdraw slot)) buffer
-answered p words buffer (Release slot) = printed (called p words [] (release slot)) buffer
-answered p words buffer (Advance tick) = let l = called p words buffer (advance tick (length buffer)) in printed l l.buffer
--- "it answers 14, before any other reason, and has no effect"
-answered p words buffer Malformed = record { planner = p; words = words; buffer = buffer; text = no_text 14 }
+unfoldable pub answered : Planner → List ℕ → List ℕ → Option Command → Drilled
+answered p words buffer (Some (Open cores)) = printed (opening p words cores) buffer
+answered p words buffer (Some (Declare period cost)) = printed (called p words [] (declare period cost)) buffer
+answered p words buffer (Some (Withdraw slot)) = printed (called p words [] (withdraw slot)) buffer
+answered p words buffer (Some (Release slot)) = printed (called p words [] (release slot)) buffer
+answered p words buffer (Some (Advance tick)) = let l = called p words buffer (advance tick (length buffer)) in printed l l.buffer
+-- a malformed line is no command: "it answers 14, before any other reason, and has no effect"
+answered p words buffer None = record { planner = p; words = words; buffer = buffer; text = no_text 14 }
 
 -- The step of one line.
 unfoldable pub drilled : Planner → List ℕ → List ℕ → List ℕ → Drilled

@@ -1,5 +1,5 @@
 -- A script by the rules alone: the calls that its lines say, and the lines that the rules print.
-use Rattle.std.specs.Prelude.{List, [], ◌∷◌, ◌++◌, ℕ}
+use Rattle.std.specs.Prelude.{Option, Some, List, [], ◌∷◌, ◌++◌, ℕ}
 use Rattle.rules.specs.Calls.{Call, declare, withdraw, release, advance}
 use Rattle.rules.specs.Checked.{Line}
 use Rattle.text.specs.declared.Command.{Command}
@@ -14,12 +14,12 @@ saying (withdraw slot) = Withdraw slot
 saying (release slot) = Release slot
 saying (advance tick room) = Advance tick
 
-unfoldable pub sayings : List Call → List Command
+unfoldable pub sayings : List Call → List (Option Command)
 sayings [] = []
-sayings (c ∷ cs) = saying c ∷ sayings cs
+sayings (c ∷ cs) = Some (saying c) ∷ sayings cs
 
--- the commands of some lines
-unfoldable pub commands_of : List (List ℕ) → List Command
+-- the commands of some lines, and none for a malformed one
+unfoldable pub commands_of : List (List ℕ) → List (Option Command)
 commands_of [] = []
 commands_of (line ∷ lines) = command_of line ∷ commands_of lines
 

@@ -1,4 +1,6 @@
 // The drill's work: a script of lines, in whatever pieces it arrives, to the planner's answers as text.
+//
+// Planner and buffers are passed one by one: they lie where the caller has them, and a buffer may be longer than is asked.
 #![tactic(auto)]
 
 mod answer; // answer.rt: one line to its answer

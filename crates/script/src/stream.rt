@@ -7,7 +7,7 @@ ghost use Rattle.script.specs.Fed.{midst, silent, fed, lastly, Comes, Goes};
 
 use crate::answer::{answer_line, malformed};
 use crate::{ANSWER_BYTES, Fed, Reply};
-use lines::{LINE_BYTES, fill};
+use lines::{Filled, LINE_BYTES, fill};
 use planner::Planner;
 
 // The line of which len bytes are kept, answered: over 64 bytes it is malformed, and not all of it is stored.
@@ -55,21 +55,20 @@ pub fn feed(
         (take result.used piece.now))
         result shares.new segments.new line.new out.old out.new }
 {
-    let filled = fill(line, len, piece);
-    if !filled.ended {
+    let Filled { len, used, ended } = fill(line, len, piece);
+    if !ended {
         return Fed {
             planner: p,
-            len: filled.len,
-            used: filled.used,
+            len,
+            used,
             written: 0,
         };
     }
-    let reply = answer_kept(p, shares, segments, line, filled.len, out);
-    let next = reply.planner;
+    let reply = answer_kept(p, shares, segments, line, len, out);
     Fed {
-        planner: next,
+        planner: reply.planner,
         len: 0,
-        used: filled.used,
+        used,
         written: reply.used,
     }
 }
@@ -120,29 +119,28 @@ pub fn feed_lines(
         (take result.used piece.now))
         result shares.new segments.new line.new out.old out.new }
 {
-    let mut planner = p;
-    let mut kept = len;
-    let mut at: usize = 0;
-    let mut written: usize = 0;
-    while at < piece.len() && ANSWER_BYTES <= out.len() - written {
-        let fed = feed(
-            planner,
+    let mut fed = Fed {
+        planner: p,
+        len,
+        used: 0,
+        written: 0,
+    };
+    // Each turn moves on by as many bytes as its line took.
+    while fed.used < piece.len() && ANSWER_BYTES <= out.len() - fed.written {
+        let line_fed = feed(
+            fed.planner,
             shares,
             segments,
             line,
-            kept,
-            &piece[at..],
-            &mut out[written..],
+            fed.len,
+            &piece[fed.used..],
+            &mut out[fed.written..],
         );
-        planner = fed.planner;
-        kept = fed.len;
-        at += fed.used;
-        written += fed.written;
+        fed = Fed {
+            used: fed.used + line_fed.used,
+            written: fed.written + line_fed.written,
+            ..line_fed
+        };
     }
-    Fed {
-        planner,
-        len: kept,
-        used: at,
-        written,
-    }
+    fed
 }

@@ -1,11 +1,7 @@
--- `answer_all` keeps the buffers' lengths; its measure is the number of reads that are left.
-use Rattle.std.proofs.Common.{◌≡◌, length}
-use Rattle.drill.proofs.Between.{Between}
+-- `answer_all` keeps no more of a line than `answer_piece` takes.
+use Rattle.std.proofs.Common.{suc, ◌≤◌}
+use Rattle.lines.specs.Lines.{line_bytes}
 use Rattle.drill.proofs.answer_all.Given as goal
 
-abbrev pub invariant-loop-reads : goal.invariant-loop-reads
-invariant-loop-reads g l =
-    Between l.initial.shares l.initial.segments l.initial.line l.initial.out l.shares l.segments l.line l.out l.state.len × (length l.input ≡ length l.initial.input)
-
-abbrev pub decreases-loop-reads : goal.decreases-loop-reads
-decreases-loop-reads g l = l.reads
+abbrev pub invariant-loop : goal.invariant-loop
+invariant-loop g l = l.state.len ≤ suc line_bytes

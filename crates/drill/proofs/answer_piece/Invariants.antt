@@ -1,11 +1,10 @@
--- `answer_piece` keeps the buffers' lengths; each turn takes at least one byte of the piece.
-use Rattle.std.proofs.Common.{length, ◌-◌, ◌≤◌}
-use Rattle.drill.proofs.Between.{Between}
+-- `answer_piece` takes at least one byte of the piece a turn, since the output has room for a line.
+use Rattle.std.proofs.Common.{length, suc, ◌≤◌}
+use Rattle.lines.specs.Lines.{line_bytes}
 use Rattle.drill.proofs.answer_piece.Given as goal
 
-abbrev pub invariant-loop-at : goal.invariant-loop-at
-invariant-loop-at g l =
-    Between l.initial.shares l.initial.segments l.initial.line l.initial.out l.shares l.segments l.line l.out l.kept × (l.at ≤ length l.piece)
+abbrev pub invariant-loop-rest : goal.invariant-loop-rest
+invariant-loop-rest g l = l.state.len ≤ suc line_bytes
 
-abbrev pub decreases-loop-at : goal.decreases-loop-at
-decreases-loop-at g l = length l.piece - l.at
+abbrev pub decreases-loop-rest : goal.decreases-loop-rest
+decreases-loop-rest g l = length l.rest
