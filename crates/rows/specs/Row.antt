@@ -1,6 +1,6 @@
 -- What a sound table asks of a row: 64 shares, beside each slot's deadline in ticks after the plan start, or 0 where no job is
 -- pending, and each slot's rate.
-use Rattle.std.specs.Prelude.{◌≡◌, ℕ, ◌+◌, ◌≤◌, Bool, true, cond, ◌&&◌, List, [], ◌∷◌, Some, None, if◌then◌else◌, ◌==◌, nat_le, nat_lt}
+use Rattle.std.specs.Prelude.{◌≡◌, ℕ, ◌+◌, ◌≤◌, Bool, true, cond, ◌&&◌, List, [], ◌∷◌, ◌==◌, nat_le, nat_lt}
 use Rattle.rules.specs.Station.{slot_count, grains, longest_period, sum}
 use Rattle.rows.specs.declared.look.RowFacts.{RowFacts}
 
@@ -35,7 +35,8 @@ pub record Rated (rates : List ℕ) (most : ℕ) : Type 0 where
 
 -- What it hands back. A row that does not fit has no sum: it may have wrapped.
 pub record Facts (end most : ℕ) (due rates row : List ℕ) (r : RowFacts) : Type 0 where
-  pub sum_is : r.sum ≡ (if shares_fit end most due row then Some (sum row) else None)
+  pub fit : r.fits ≡ shares_fit end most due row
+  pub sum_is : r.fits ≡ true → r.sum ≡ sum row
   pub owed-is : r.owed ≡ owed_in end due rates
   pub hits_are : r.hits ≡ hits_in end due
   pub small : r.owed ≤ 4294967295

@@ -7,11 +7,13 @@ use rules::SLOTS;
 // The highest bit of a word.
 const MARK: u32 = 2147483648;
 
-// What a sound table asks of a row, in one pass: the shares added up where each share fits, the rates of the jobs that
-// are due at the slice's end or after it, and how many are due at it.
+// What a sound table asks of a row, in one pass: whether each share fits, the shares added up where they do, the rates
+// of the jobs that are due at the slice's end or after it, and how many are due at it. Flag and sum are no Option: tried
+// so, the compiled sum stands behind a test of the flag, and a row takes a third longer.
 #[derive(Clone, Copy, Debug, PartialEq, Eq)]
 pub struct RowFacts {
-    pub sum: Option<u64>,
+    pub fits: bool,
+    pub sum: u64,
     pub owed: u64,
     pub hits: u64,
 }
@@ -88,7 +90,8 @@ pub fn look(
         hits += hit(due[i], end);
     }
     RowFacts {
-        sum: (over < MARK).then_some(u64::from(sum)),
+        fits: over < MARK,
+        sum: u64::from(sum),
         owed: u64::from(owed),
         hits: u64::from(hits),
     }

@@ -1,24 +1,18 @@
 -- Loops over slices and boundaries: what is left to look at, from boundary k on, loses one slice a turn.
 -- Slice k is boundary k with row k, as long as there are boundaries.
-use mathlib.Core.Path.{◌≡◌, refl, ap, sym}
+use mathlib.Core.Path.{◌≡◌, refl}
 use mathlib.Core.Bool.{Bool, true, false, ◌&&◌, and_assoc, and-true}
 use mathlib.Core.List.{List, [], ◌∷◌}
-use Prim.Native.Nat.{ℕ, ◌+◌, ◌*◌, ◌≤◌, ◌<◌}
-use native.Mathlib.Nat.{mul-le-mul}
+use Prim.Native.Nat.{ℕ, ◌+◌, ◌≤◌, ◌<◌}
 use native.Mathlib.Numerals.{add-one}
 use native.Mathlib.Omega.{arith}
-use lib.Dec.{eqb, leb, ltb}
-use borrow.Author.Tests.{lt-leb}
+use lib.Dec.{eqb}
 use lib.ListN.{length, take, drop, get_or, length-take, drop_of_length-le}
 use lib.Seq.{drop-cons, get_or-take}
-use Rattle.std.proofs.Common.{Option, Some, None}
-use Rattle.std.specs.Bool.{if◌then◌else◌}
-use Rattle.std.specs.Option.{is_some, unwrap_or}
 use Rattle.std.specs.List.{list_all}
 use Rattle.rules.specs.Station.{Slice, row_count, sum}
 use Rattle.rules.specs.Sound.{every, each_slice}
 use Rattle.rules.specs.Words.{rows_of, row_at, slices_of}
-use Rattle.rows.proofs.Folds.{sum-next, sum_done}
 use Rattle.table.proofs.Rowed.{length-rows_of}
 use Rattle.sound.specs.Due.{slice_at, slice_hits, all_hits, within, row_test, slice_check}
 use Rattle.slots.proofs.Tests.{sum_zero}
@@ -67,23 +61,14 @@ pub not_within : (start : ℕ) (due rates : List ℕ) (lo end : ℕ) (row : List
 unfolding slice_check slice_hits slice_at
 not_within start due rates lo end row h = (rw h, rw h)
 
--- shares that do not fit, taken for more than any sum
-pub one_test : (sum : Option ℕ) (long owed hits : ℕ) → long ≤ 60000 → owed ≤ 4294967295
-    → (leb (unwrap_or sum 18446744073709551615) (long * owed) && ltb 0 hits) ≡ row_test (is_some sum) (unwrap_or sum 0) long owed hits
+-- the sum of a row counts only where each share fits
+pub sum_counts : (fits : Bool) (a b long owed hits : ℕ) → (fits ≡ true → a ≡ b) → row_test fits a long owed hits ≡ row_test fits b long owed hits
 unfolding row_test every
-one_test (Some total) long owed hits short small = ap (λ b. leb total (long * owed) && b) (sym (and-true (ltb 0 hits)))
-one_test None long owed hits short small =
-    let fits = mul-le-mul {n₁ = long} {m₁ = owed} {n₂ = 60000} {m₂ = 4294967295} short small in
-    rw (lt-leb 18446744073709551615 (long * owed) (omega (arith, fits)))
-
-pub sum_given : (fits : Bool) (total long owed hits : ℕ) {sum : Option ℕ} → sum ≡ (if fits then Some total else None) → row_test (is_some sum) (unwrap_or sum 0) long owed hits ≡ row_test fits total long owed hits
-unfolding row_test every
-sum_given true total long owed hits is = rw is
-sum_given false total long owed hits is = rw is
+sum_counts true a b long owed hits h = rw (h refl)
+sum_counts false a b long owed hits h = refl
 
 -- a sum is zero where all words are
 pub zero-all : (words : List ℕ) → list_all (λ word. eqb word 0) words ≡ eqb (sum words) 0
 unfolding sum
 zero-all [] = refl
 zero-all (word ∷ words) = rw (zero-all words, sum_zero word (sum words))
-

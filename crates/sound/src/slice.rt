@@ -2,7 +2,6 @@ ghost use Rattle.std.specs.Prelude.{◌≡◌, ◌&&◌, ◌+◌, ◌≤◌, ◌
 ghost use Rattle.rules.specs.Station.{longest_period, slot_count, row_count, sum};
 ghost use Rattle.rules.specs.Sound.{each_slice};
 ghost use Rattle.rules.specs.Words.{rows_of, row_at, slices_of};
-ghost use Rattle.std.specs.Option.{is_some, unwrap_or};
 ghost use Rattle.sound.specs.Due.{Beside, slice_check, slice_hits, all_hits, slice_at, row_test};
 
 use rows::look::RowFacts;
@@ -26,15 +25,14 @@ pub struct Span {
     pub end: u64,
 }
 
-// What one pass over the row gave, for a slice that is `long` ticks long. Shares that do not fit count as more than any sum: so it is one
-// comparison, and the compiler adds up and compares in one pass.
+// What one pass over the row gave, for a slice that is `long` ticks long.
+#[tactic(auto, unfolding(crate::specs::Due::row_test, rules::specs::Sound::every))]
 fn row_fits(row: RowFacts, long: u64) -> bool
     requires long_le_longest_period { long ≤ longest_period }
     requires owed_bound { row.owed ≤ 4294967295 }
-    ensures { result ≡ row_test (is_some row.sum) (unwrap_or row.sum 0) long row.owed row.hits }
+    ensures { result ≡ row_test row.fits row.sum long row.owed row.hits }
 {
-    let fits = row.sum.unwrap_or(u64::MAX) <= long * row.owed;
-    fits && 0 < row.hits
+    row.fits && row.sum <= long * row.owed && 0 < row.hits
 }
 
 // Row k and the time of its slice. Any times may come: those that no sound table has are answered before anything is computed.

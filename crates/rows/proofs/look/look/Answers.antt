@@ -1,17 +1,11 @@
 -- `look` goes through the slots once: after i turns each number is what the first i slots give, and with the rest's all slots'.
 -- The sum is kept without its multiples of 2 to the 32nd: where each share fits, 64 of them are less than that.
-use Rattle.std.proofs.Common.{◌≡◌, ℕ, Bool, true, false, Some, None, if◌then◌else◌, ◌+◌, ◌*◌, ◌<◌, ◌≤◌, ltb, length, get_or, drop, sym, refl, ◌∙◌, arith, rules}
-use Rattle.std.specs.Bool.{then_some}
+use Rattle.std.proofs.Common.{◌≡◌, ◌+◌, ◌*◌, ◌<◌, ◌≤◌, ltb, length, get_or, drop, sym, refl, ◌∙◌, arith, rules}
 use mathlib.Core.Bool.{and_assoc, and-true}
 use Rattle.rules.specs.Station.{sum}
 use Rattle.rows.specs.Row.{share_fits, shares_fit}
 use Rattle.rows.proofs.Folds.{sum-next, sum_done, fits_next, fits-done, fits_sum, owed-next, owed-done, hits_next, hits_done}
 use Rattle.rows.proofs.look.look.Goals as goal
-
--- the sum is handed back exactly where each share fits
-summed : (marked fits : Bool) (kept whole : ℕ) → marked ≡ fits → (fits ≡ true → kept ≡ whole) → then_some marked kept ≡ (if fits then Some whole else None)
-summed marked true kept whole is same = rw (is, same refl)
-summed marked false kept whole is same = rw is
 
 pub loop-i-init : goal.loop-i-init
 loop-i-init c = record { within = search rules; small = search rules; fits-left = refl; sum_left = omega arith; owed_small = omega arith; owed-left = omega arith; hits_left = omega arith }
@@ -59,9 +53,9 @@ returns c =
     let fits : ltb c.loop-i.over 2147483648 ≡ shares_fit at.end at.most due row =
     sym (and-true _) ∙ rw (fits-done at.end at.most due row i row-end) at c.loop-i.invariant.fits-left in
     record {
-      sum_is = c.then_some.ensures
-          ∙ summed _ _ c.from.result (sum row) fits (λ e. let all : sum row ≤ at.most * 64 = rw wide at (fits_sum at.end at.most due row e) in
-          omega (arith, sum_done row i row-end));
+      fit = fits;
+      sum_is = λ e. let all : sum row ≤ at.most * 64 = rw wide at (fits_sum at.end at.most due row (sym fits ∙ e)) in
+          omega (arith, sum_done row i row-end);
       owed-is = omega (arith, owed-done at.end due at.rates.now i due-end);
       hits_are = omega (arith, hits_done at.end due i due-end);
       small = omega arith;

@@ -10,7 +10,7 @@ use borrow.Author.Rules.{rules}
 use Rattle.rules.specs.Station.{sum}
 use Rattle.rules.specs.Words.{row_at}
 use Rattle.sound.specs.Due.{within, slice_check, slice_hits, slice_at}
-use Rattle.sound.proofs.Passed.{not_within, sum_given}
+use Rattle.sound.proofs.Passed.{not_within, sum_counts}
 use Rattle.sound.proofs.slice.one_slice.Goals as goal
 use Rattle.sound.proofs.slice.one_slice.Goals.{Else-long-gt-LONGEST_PERIOD, Joined-then-long-eq0}
 
@@ -64,7 +64,7 @@ returns c =
     let row = c.row_look-row.result in
     let got = c.row_look-row.ensures in
     let ok = inside (goal.at.returns c).Else-long-gt-LONGEST_PERIOD in
-    let same = sum_given _ (sum (row_at at.k at.shares.now)) (at.span.end - at.span.from) row.owed row.hits got.sum_is in
+    let same = sum_counts row.fits row.sum (sum (row_at at.k at.shares.now)) (at.span.end - at.span.from) row.owed row.hits got.sum_is in
     record {
       ok_value = rw ok (cc);
       hits_value = rw ok (cc);
