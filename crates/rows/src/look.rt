@@ -9,7 +9,7 @@ const MARK: u32 = 2147483648;
 
 // What a sound table asks of a row, in one pass: whether each share fits, the shares added up where they do, the rates
 // of the jobs that are due at the slice's end or after it, and how many are due at it. Flag and sum are no Option: tried
-// so, the compiled sum stands behind a test of the flag, and a row takes a third longer.
+// so, the compiled sum stands behind a test of the flag, and a row takes a sixth more instructions.
 #[derive(Clone, Copy, Debug, PartialEq, Eq)]
 pub struct RowFacts {
     pub fits: bool,

@@ -23,8 +23,9 @@ pub fn row_look(
     requires rated { Rated rates.now most }
     ensures { Facts end most due.now rates.now (row_at k shares.now) result }
 {
-    let (_, from) = shares.split_at(SLOTS * k);
-    rows::look::look(from.first_chunk().unwrap(), due, rates, end, most)
+    let a = SLOTS * k;
+    let row = shares[a..a + SLOTS].as_array().unwrap();
+    rows::look::look(row, due, rates, end, most)
 }
 
 // Row k becomes zero.

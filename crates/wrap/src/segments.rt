@@ -70,14 +70,15 @@ fn within(segment: Segment, window: Window) -> Segment
 }
 
 // Four words after the first `count` segments.
-#[tactic(auto, unfolding(crate::specs::Shown::segment_of, crate::specs::Shown::written_from, rules::specs::Words::segments_flat))]
 fn write(segment: Segment, buffer: &mut [u64], count: usize)
     requires { Room buffer.old count }
     ensures { buffer.new ≡ written_from count (segment_of segment ∷ []) buffer.old }
 {
     let at = 4 * count;
-    let words = [segment.core, segment.slot, segment.first, segment.after];
-    buffer[at..at + 4].copy_from_slice(&words);
+    buffer[at] = segment.core;
+    buffer[at + 1] = segment.slot;
+    buffer[at + 2] = segment.first;
+    buffer[at + 3] = segment.after;
 }
 
 // What the window shows of a segment is written after the first `count`. "Empty segments don't exist." Hands back the
