@@ -71,6 +71,29 @@ pub fn tell(res: &mut [u64; RESULT_WORDS], answer: Result<Done, Refusal>) -> u64
     res[0]
 }
 
+// What the words tell of who holds a core: the slot, or 64, and the grain, or 0.
+#[tactic(auto, unfolding(calls::specs::Called::answer_of, wrap::specs::Holding::told_by, crate::specs::Station::told_words, crate::specs::Station::holding_words))]
+fn shown(holder: Holder) -> Done
+    ensures { answer_of (Ok result) ≡ told_words 0 (told_by (Ok holder)).holding }
+{
+    let Holder::Held { slot, until } = holder else {
+        let Holder::IdleUntil(grain) = holder else {
+            return Done {
+                value: NOBODY,
+                count: 0,
+            };
+        };
+        return Done {
+            value: NOBODY,
+            count: grain,
+        };
+    };
+    Done {
+        value: slot,
+        count: until,
+    }
+}
+
 // Holder's answer into a result area.
 #[tactic(auto, using(crate::proofs::Telling::told_refused), unfolding(calls::specs::Called::answer_of, rules::specs::Calls::refusal, wrap::specs::Holding::told_by, crate::specs::Station::told_words, crate::specs::Station::holding_words))]
 pub fn tell_holder(res: &mut [u64; RESULT_WORDS], holder: Result<Holder, Refusal>) -> u64
@@ -78,11 +101,8 @@ pub fn tell_holder(res: &mut [u64; RESULT_WORDS], holder: Result<Holder, Refusal
     ensures res_after { res.new
         ≡ answer_words (told_words (told_by holder).number (told_by holder).holding) }
 {
-    let (value, count) = match holder {
-        Ok(Holder::Held { slot, until }) => (slot, until),
-        Ok(Holder::IdleUntil(grain)) => (NOBODY, grain),
-        Ok(Holder::Idle) => (NOBODY, 0),
-        Err(refusal) => return tell(res, Err(refusal)),
-    };
-    tell(res, Ok(Done { value, count }))
+    match holder {
+        Ok(holder) => tell(res, Ok(shown(holder))),
+        Err(refusal) => tell(res, Err(refusal)),
+    }
 }
