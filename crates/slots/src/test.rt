@@ -99,8 +99,10 @@ pub fn tasks_sound(state: State, lists: &[u64; LIST_WORDS]) -> Option<Dues>
         }))
         None }
 {
-    let mut due = [0; SLOTS];
-    let mut rates = [0; SLOTS];
+    let mut dues = Dues {
+        due: [0; SLOTS],
+        rates: [0; SLOTS],
+    };
     let mut left = state.used;
     for slot in 0..SLOTS {
         let task = task_in(lists, slot);
@@ -108,8 +110,8 @@ pub fn tasks_sound(state: State, lists: &[u64; LIST_WORDS]) -> Option<Dues>
             return None;
         }
         left /= 2;
-        due[slot] = due_of(task.deadline, state.start);
-        rates[slot] = task.rate as u32;
+        dues.due[slot] = due_of(task.deadline, state.start);
+        dues.rates[slot] = task.rate as u32;
     }
-    (left == 0).then_some(Dues { due, rates })
+    (left == 0).then_some(dues)
 }

@@ -32,8 +32,8 @@ returns-then-not-one_task c =
     rw (sym (going_fails c.loop-slot.invariant (slots_length _) free (omega arith) fails))
 
 -- a sound task's rate is small
-pub overflow_cast-rates : goal.overflow_cast-rates
-overflow_cast-rates c = omega (arith, c.one_task.ensures.rate_bound (c.if-not-one_task.false))
+pub overflow_cast-dues : goal.overflow_cast-dues
+overflow_cast-dues c = omega (arith, c.one_task.ensures.rate_bound (c.if-not-one_task.false))
 
 pub loop-slot-preserved : goal.loop-slot-preserved
 loop-slot-preserved c =

@@ -5,4 +5,4 @@ use Rattle.slots.proofs.Slots.{Going}
 use Rattle.slots.proofs.test.tasks_sound.Given as goal
 
 abbrev pub invariant-loop-slot : goal.invariant-loop-slot
-invariant-loop-slot l = Going l.state.used l.state.clock l.state.start (tasks_of l.lists) l.initial.due l.initial.rates l.due l.rates l.left l.slot
+invariant-loop-slot l = Going l.state.used l.state.clock l.state.start (tasks_of l.lists) l.initial.dues.due l.initial.dues.rates l.dues.due l.dues.rates l.left l.slot
