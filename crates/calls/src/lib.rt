@@ -1,5 +1,6 @@
 // The six calls, once for both ways to hold the planner: its few numbers, its lists and the words of the share table are worked on where
 // they lie. Each call checks them itself, and a refusal changes nothing.
+// They are lent one by one, as some calls are lent the shares for reading and others for writing.
 #![tactic(auto)]
 
 pub mod reason; // reason.rt: the first reason to refuse a call, by the numbers that are held

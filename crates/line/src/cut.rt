@@ -51,6 +51,7 @@ pub fn cut_rest(first: &[u32; SLOTS], rest: &mut [u32; SLOTS])
     requires { (i : ℕ) → i < slot_count → get_or first.now i 0 ≤ get_or rest.old i 0 }
     ensures { rest.new ≡ less (λ i. get_or first.now i 0) 0 rest.old }
 {
+    // One place in both rows and no zip: the library does not say what a zip over `iter_mut` leaves.
     for (i, share) in rest.iter_mut().enumerate() {
         *share -= first[i];
     }

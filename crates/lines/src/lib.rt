@@ -30,7 +30,8 @@ fn line_end(piece: &[u8]) -> usize
         .unwrap_or(piece.len())
 }
 
-// A piece up to its first newline, or all of it, taken into a line of which len bytes are there.
+// A piece up to its first newline, or all of it, taken into a line of which len bytes are there. Nothing is allocated: the line is lent,
+// and its length goes with it.
 pub fn fill(line: &mut [u8], len: usize, piece: &[u8]) -> Filled
     requires line_bytes_in_bounds { line_bytes ≤ length line.old }
     requires len_bound { len ≤ suc line_bytes }

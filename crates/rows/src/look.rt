@@ -62,7 +62,7 @@ pub fn hit(due: u32, end: u32) -> u32
     ensures value { result ≡ (if nat_eq end due then 1 else 0) }
     ensures upper_bound { result ≤ 1 }
 {
-    if end == due { 1 } else { 0 }
+    u32::from(end == due)
 }
 
 // The row of a slice that ends `end` ticks after the plan start and has `most` grains. `due` has each slot's deadline,

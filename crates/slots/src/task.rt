@@ -60,6 +60,7 @@ pub fn load(lists: &[u64; LIST_WORDS]) -> u64
     requires { rates (tasks_of lists.now) ≤ 18446744073709551615 }
     ensures { result ≡ rates (tasks_of lists.now) }
 {
+    // No `sum()`: that all rates together fit is known of the whole, and the chain left its bound open.
     let mut total = 0;
     for slot in 0..SLOTS {
         total += task_in(lists, slot).rate;

@@ -1,5 +1,7 @@
 // Routines on the lent share table: 64 rows of 64 words. Each lends its rows on as parts, and says what it did by the
 // table's rows, so that callers see no offset. Words past the table stay as they were.
+// The shares are a slice of some least length and no array, as a station may lend more words than the table has. A row is named by its
+// number, below 64: its words begin at a product of it, so a type for such numbers would be taken apart at each use.
 #![tactic(auto)]
 
 pub mod row; // row.rt: one row of the table
