@@ -14,16 +14,16 @@ use Rattle.rules.specs.Station.{Slice, grains, last_tick, longest_period, row_co
 use Rattle.rules.specs.Slices.{is_end}
 use Rattle.rules.specs.Release.{deadline_of}
 use Rattle.rules.specs.Calls.{declare, withdraw, release, advance, refused, refusals, not_in_use, job_pending, lowest_free, segment_words}
-use Rattle.rules.proofs.Floor.{by_bool, by_eq}
+use Rattle.rules.proofs.Floor.{by_bool, by_eq, by_lt}
 use Rattle.rules.proofs.Steps.{or_none}
 use Rattle.plan.specs.Planned.{slices_in}
-use Rattle.rules.specs.Held.{Planner, table_of, table_at, is_sound_in, ends_in, ends_of, tasks_of}
+use Rattle.rules.specs.Held.{Planner, table_of, table_at, is_sound_in, list_words, ends_in, ends_of, tasks_of}
 use Rattle.rules.proofs.Held.{slots_length}
 use Rattle.calls.specs.Reasons.{declare_number, task_number, among, due_number, advance_number}
 use Rattle.calls.specs.Called.{Agrees, number_for}
 use Rattle.slots.proofs.Used.{all-used, used_all}
 use Rattle.calls.proofs.Called.{not-unsound}
-use Rattle.calls.proofs.Joint.{used-held, planned-held, few-held}
+use Rattle.calls.proofs.Joint.{agrees, used-held, planned-held, few-held}
 
 -- a reason that does not hold, before the others
 past : (b : Bool) (n m : ℕ) → cond b (suc n) m ≡ 0 → (b ≡ false) × (m ≡ 0)
@@ -151,3 +151,14 @@ module _ {p : Planner} {w : List ℕ} (ok : is_sound_in p w ≡ true) (a : Agree
       pub release-first : (n : ℕ) → task_number (get_or (tasks_of p.lists) slot free).period (get_or (tasks_of p.lists) slot free).deadline ≡ n → (n ≡ 0 → ⊥) → number_for p w (release slot) ≡ n
       release-first zero e some = absurd (some refl)
       release-first (suc n) e some = release_task n e
+
+-- a reason of a withdraw is one of a release of that slot
+pub release_as : (p : Planner) (w : List ℕ) → length p.lists ≡ list_words → (slot n : ℕ) → n ≡ number_for p w (withdraw slot) → (n ≡ 0 → ⊥) → number_for p w (release slot) ≡ n
+unfolding number_for
+release_as p w wide slot n is some =
+    by_bool (is_sound_in p w)
+    (λ ok. let a = agrees p w wide ok in
+    by_lt 63 slot
+    (λ far. release-past ok a slot far ∙ sym (is ∙ withdraw-past ok a slot far))
+    (λ few. release-first ok a slot few n (sym (is ∙ withdraw-number ok a slot few)) some))
+    (λ bad. rw bad (sym (rw bad at is)))

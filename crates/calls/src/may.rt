@@ -49,6 +49,7 @@ pub fn may_withdraw(
     task_reason(task_in(lists, slot as usize))
 }
 
+// The reasons of a withdraw come first.
 pub fn may_release(
     state: State,
     lists: &[u64; LIST_WORDS],
@@ -57,12 +58,8 @@ pub fn may_release(
 ) -> Result<(), Refusal>
     ensures { verdict result ≡ number_for (planner state lists.now) shares.now (release slot) }
 {
-    checked(state, lists, shares)?;
-    if LAST_SLOT < slot {
-        return Err(Refusal::Slot);
-    }
+    may_withdraw(state, lists, shares, slot)?;
     let task = task_in(lists, slot as usize);
-    task_reason(task)?;
     let ends = lists.first_chunk::<ROWS>().unwrap();
     due_reason(state.clock + task.period, state.count, ends)
 }

@@ -22,10 +22,7 @@ pub fn open(
     lists.fill(0);
     *state = State {
         cores,
-        clock: 0,
-        start: 0,
-        used: 0,
-        count: 0,
+        ..State::default()
     };
     Ok(Done {
         value: cores,

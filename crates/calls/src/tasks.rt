@@ -48,13 +48,7 @@ pub fn withdraw(
 {
     may_withdraw(*state, lists, shares, slot)?;
     let at = slot as usize;
-    let free = Task {
-        period: 0,
-        cost: 0,
-        rate: 0,
-        deadline: 0,
-    };
-    put_task(lists, at, free);
+    put_task(lists, at, Task::default());
     state.used -= bit_of(at);
     Ok(Done { value: 0, count: 0 })
 }

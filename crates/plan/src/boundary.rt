@@ -9,7 +9,7 @@ use rules::ROWS;
 use table::cut::cut_row;
 use table::shift::drop_row;
 
-// Where the slice at place k begins: at the boundary before it, or at the plan start.
+// Where the slice at place k begins: at the boundary before it, or at the plan start. (`checked_sub` and a `match` would say the same in more words.)
 #[tactic(auto, unfolding(crate::specs::Planned::begin_of))]
 fn begin(ends: &[u64; ROWS], k: usize, start: u64) -> u64
     requires { k < row_count }

@@ -4,7 +4,8 @@ ghost use Rattle.plan.specs.Planned.{before, put_in, taken_out};
 
 use rules::ROWS;
 
-// How many of the first `count` boundaries are before d: the place of d among them, as they rise.
+// How many of the first `count` boundaries are before d: the place of d among them, as they rise. Counted and not searched for: so it is
+// promised for boundaries in any order.
 #[tactic(auto, unfolding(crate::specs::Planned::before))]
 pub fn place(ends: &[u64; ROWS], count: usize, d: u64) -> usize
     requires { count ≤ row_count }

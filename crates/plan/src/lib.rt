@@ -1,6 +1,6 @@
 // What release and advance do to the slices: boundaries in lent words with their number, rows in the lent share table.
 // The lent words have a fixed size, so a number beside them says how many are in use. Each routine says which slices
-// are held afterwards.
+// are held afterwards, and that the words past the table are as they were.
 #![tactic(auto)]
 
 pub mod ends; // ends.rt: the boundaries alone

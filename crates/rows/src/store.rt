@@ -1,4 +1,4 @@
-ghost use Rattle.std.specs.Prelude.{◌≡◌, ◌+◌, ◌*◌, ◌<◌, ◌≤◌, ◌++◌, length, take, slice_index, slice_set};
+ghost use Rattle.std.specs.Prelude.{◌≡◌, ◌+◌, ◌*◌, ◌<◌, ◌≤◌, ◌++◌, length, take, drop, slice_index, slice_set};
 ghost use Rattle.rules.specs.Station.{slot_count, zeros};
 
 use rules::SLOTS;
@@ -12,6 +12,17 @@ pub fn clear(row: &mut [u32; SLOTS])
     ensures { row.new ≡ zeros }
 {
     row.fill(0);
+}
+
+// Of two rows that stand together, the second is copied over the first. By place and over a slice: so the compiler makes one move of all rows
+// that move up, and of `copy_from_slice` a call for each row, which was tried and is slower.
+pub fn copy_up(two: &mut [u32])
+    requires { length two.old ≡ 2 * slot_count }
+    ensures { two.new ≡ drop slot_count two.old ++ drop slot_count two.old }
+{
+    for i in 0..SLOTS {
+        two[i] = two[SLOTS + i];
+    }
 }
 
 // Of two rows that stand together, the first is copied over the second.

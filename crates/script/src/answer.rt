@@ -9,12 +9,10 @@ ghost use Rattle.script.specs.Drilled.{answer_bytes, segment_text, segment_texts
 use crate::Reply;
 use calls::Done;
 use planner::{Next, Planner};
-use rules::Refusal;
+use rules::{Refusal, WORDS_PER_SEGMENT};
 use text::{Command, read_command, write_done, write_refused, write_segment};
 
 // "core, slot, first grain, grain after the last": a segment has four words.
-const WORDS_PER_SEGMENT: usize = 4;
-
 // "A malformed line answers 14": a number for lines alone, as no call of the planner answers it.
 const MALFORMED: u64 = 14;
 

@@ -10,6 +10,8 @@ use lib.Dec.{leb, ltb, eqb}
 use Rattle.rules.specs.declared.Task.{Task}
 use Rattle.rules.specs.Station.{rate_of, in_use}
 use Rattle.rules.specs.Sound.{every, lawful_test}
+use Rattle.std.specs.Int.{div_ceil}
+use Rattle.std.proofs.lemmas.Grind.{div_ceil_times}
 use Rattle.rules.proofs.Floor.{at_scale, floor, unique, by_lt}
 use Rattle.slots.proofs.Tests.{same_bool}
 
@@ -73,3 +75,27 @@ lawful_is k =
     by_lt 0 k.period
     (λ used. rw (lt-ltb 0 k.period used, lawful-rate k.period k.cost k.rate used) (simp and_assoc))
     (λ none. rw (le-ltb 0 k.period none))
+
+-- the library's quotient, rounded up, is the rate
+module _ (period cost : ℕ) (some : 1 ≤ period) where
+  abbrev up : ℕ
+  up = div_ceil cost period
+
+  pub up-rate : up ≡ rate_of period cost
+  unfolding rate_of
+  up-rate =
+      let at = div_ceil_times cost period some in
+      by_lt 0 up
+      (λ more. by_lt 0 cost
+      (λ costs. rate-to period cost up some more (omega (arith, one_less up period more)) (omega arith))
+      (λ free. absurd (omega (arith, one_less up period more))))
+      (λ none. let zero : up ≡ 0 = omega arith in
+      let free : cost ≡ 0 = omega (arith, ap (λ t. t * period) zero) in
+      rw (zero, free) (sym (unique {n = 0 + (period - 1)} {D = period} 0 (period - 1) (omega arith) (omega arith)).0))
+
+  pub up-small : cost ≤ 1000 * period → up ≤ 1000
+  up-small most =
+      let at = div_ceil_times cost period some in
+      by_lt 0 up
+      (λ more. let less : up - 1 ≤ 999 = at_scale period (omega (arith, one_less up period more)) in omega arith)
+      (λ none. omega arith)

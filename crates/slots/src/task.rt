@@ -7,7 +7,6 @@ ghost use Rattle.slots.specs.Lists.{Tasked};
 use rules::{COST, DEADLINE, LIST_WORDS, PERIOD, RATE, SLOTS, TASKS_FROM, Task, WORDS_PER_TASK};
 
 // "Its rate is cost divided by period, rounded up".
-#[tactic(auto, unfolding(rules::specs::Station::rate_of))]
 pub fn rate_of(period: u64, cost: u64) -> u64
     requires le_period { 1 ≤ period }
     requires period_le_longest_period { period ≤ longest_period }
@@ -15,7 +14,7 @@ pub fn rate_of(period: u64, cost: u64) -> u64
     ensures value { result ≡ rate_of period cost }
     ensures upper_bound { result ≤ 1000 }
 {
-    (cost + (period - 1)) / period
+    cost.div_ceil(period)
 }
 
 // The task in a slot.

@@ -79,7 +79,8 @@ fn due_of(deadline: u64, start: u64) -> u32
     (deadline.saturating_sub(start) % 4294967296) as u32
 }
 
-// Deadlines in ticks after the plan start, or 0 where no job is pending, and rates, side by side.
+// Deadlines in ticks after the plan start, or 0 where no job is pending, and rates, side by side: two arrays, as a row is looked at beside
+// each, four slots at once.
 #[derive(Clone, Copy)]
 pub struct Dues {
     pub due: [u32; SLOTS],

@@ -2,7 +2,7 @@ ghost use Rattle.std.specs.Prelude.{◌≡◌, ◌-◌, ◌<◌, ◌^◌};
 ghost use Rattle.std.specs.Int.Count.{count_trailing_zeros, ones};
 ghost use Rattle.rules.specs.Station.{slot_count};
 
-// The lowest free slot, or 64: by trailing zeros of the complement.
+// The lowest free slot, or 64, as its promise has it: by trailing zeros of the complement.
 pub fn lowest_free(used: u64) -> usize
     ensures { result ≡ count_trailing_zeros 64 (18446744073709551615 - used) }
 {

@@ -5,7 +5,8 @@ ghost use Rattle.rows.specs.Row.{owed_in, hits_in};
 use rows::look::{hit, rate_due};
 use slots::test::Dues;
 
-// What an end asks of the deadlines: the rates of the jobs due at it or after it, added up, and how many are due at it.
+// What an end asks of the deadlines: the rates of the jobs due at it or after it, added up, and how many are due at it. These are two of the
+// sums of a row's pass, here with no row and in 64 bits, as the rates may still be any.
 #[derive(Clone, Copy)]
 pub struct DueFacts {
     pub owed: u64,

@@ -71,7 +71,8 @@ fn with_slice(found: SliceFacts, one: SliceFacts) -> SliceFacts
     }
 }
 
-// All slices: boundary k with row k, `count` of them, the first from the plan start.
+// All slices: boundary k with row k, `count` of them, the first from the plan start. The number goes with the boundaries, as those past it are
+// asked for too (below).
 pub fn slices_sound(
     shares: &[u32],
     dues: &Dues,

@@ -1,4 +1,4 @@
-// The five numbers of a state area, and an answer into a result area.
+// The five numbers of a state area, and an answer into a result area: functions and no `From`, as types and arrays are of other crates.
 ghost use Rattle.std.specs.Prelude.{◌≡◌};
 ghost use Rattle.wrap.specs.Holding.{told_by};
 ghost use Rattle.calls.specs.Called.{answer_of};
@@ -71,7 +71,8 @@ pub fn tell(res: &mut [u64; RESULT_WORDS], answer: Result<Done, Refusal>) -> u64
     res[0]
 }
 
-// What the words tell of who holds a core: the slot, or 64, and the grain, or 0.
+// What the words tell of who holds a core: the slot, or 64, and the grain, or 0. Taken apart by `let .. else`, as wherever the planner's
+// finds are (docs/DECISIONS.md).
 #[tactic(auto, unfolding(calls::specs::Called::answer_of, wrap::specs::Holding::told_by, crate::specs::Station::told_words, crate::specs::Station::holding_words))]
 fn shown(holder: Holder) -> Done
     ensures { answer_of (Ok result) ≡ told_words 0 (told_by (Ok holder)).holding }
@@ -101,8 +102,5 @@ pub fn tell_holder(res: &mut [u64; RESULT_WORDS], holder: Result<Holder, Refusal
     ensures res_after { res.new
         ≡ answer_words (told_words (told_by holder).number (told_by holder).holding) }
 {
-    match holder {
-        Ok(holder) => tell(res, Ok(shown(holder))),
-        Err(refusal) => tell(res, Err(refusal)),
-    }
+    tell(res, holder.map(shown))
 }

@@ -7,7 +7,7 @@ use native.Mathlib.Nat.{not-suc-le-zero, le_of_suc-le-suc}
 use native.Mathlib.Omega.{arith}
 use lib.Dec.{lit≤}
 use lib.ListN.{length, take, drop, get_or, set, length-take, length-drop, length-append, take-append-drop}
-use lib.Seq.{take_at, drop_at, take-add, drop-drop, length-take-le, take-take, set-get_or}
+use lib.Seq.{take_at, drop_at, take-add, drop-drop, length-take-le, take-take, set-get_or, get_or-set_other}
 use borrow.Rule.Slice.PartMut.{put_mid, same_len_mid}
 use Rattle.rules.specs.Words.{rows_of, row_at, flat, Rowed}
 
@@ -125,6 +125,17 @@ module _ (v : List ℕ) (room : 4096 ≤ length v) (k m : ℕ) (ys : List ℕ) (
 
     twice : (x : List ℕ) → length x ≡ 64 → ys ≡ x ++ x → Rowed v (set (set (rows_of 64 v) k x) (suc k) x) (put_mid (64 * k) m v ys)
     twice x long got = apart x x long long got
+
+    -- the second was copied over the first
+    pub row_up : ys ≡ drop 64 (take m (drop (64 * k) v)) ++ drop 64 (take m (drop (64 * k) v)) → Rowed v (set (rows_of 64 v) k (row_at (suc k) v)) (put_mid (64 * k) m v ys)
+    unfolding row_at
+    row_up got =
+        let x = row_at (suc k) v in
+        let R = rows_of 64 v in
+        let second : drop 64 (take 128 (drop (64 * k) v)) ≡ x = two_second v room k h in
+        let stays : get_or (set R k x) (suc k) [] ≡ x = get_or-set_other R k (suc k) x [] (omega arith) in
+        let r = twice x (length_row (suc k) v h room) (rw (is, second) at got) in
+        record { rows = r.rows ∙ rw stays at (set-get_or (set R k x) (suc k) []); past = r.past }
 
     -- the first was copied over the second
     pub row_down : ys ≡ take 64 (take m (drop (64 * k) v)) ++ take 64 (take m (drop (64 * k) v)) → Rowed v (set (rows_of 64 v) (suc k) (row_at k v)) (put_mid (64 * k) m v ys)

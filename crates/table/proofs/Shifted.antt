@@ -1,16 +1,14 @@
 -- Rows that move down by one, the last first: a step of the move, what is not yet moved, and the row that stands twice at the end.
 -- Each is an equation of `take`, `drop` and `++` at one place of the rows.
-use mathlib.Core.Path.{◌≡◌, refl, ap, ◌∙◌}
-use mathlib.Core.List.{List, [], ◌∷◌, ◌++◌, append_assoc}
-use Prim.Native.Nat.{ℕ, zero, suc, ◌+◌, ◌-◌, ◌*◌, ◌<◌, ◌≤◌}
-use native.Mathlib.Nat.{zero-add}
+use mathlib.Core.Path.{◌≡◌, ap, ◌∙◌}
+use mathlib.Core.List.{List, [], ◌∷◌, ◌++◌}
+use Prim.Native.Nat.{ℕ, suc, ◌+◌, ◌-◌, ◌<◌, ◌≤◌}
 use native.Mathlib.Numerals.{add-one}
 use native.Mathlib.Omega.{arith}
-use lib.ListN.{length, take, drop, get_or, set, take-append-drop, length-append, length-take, length-drop, get_or-append}
-use lib.Seq.{paste, take-add, drop-drop, drop-cons, take-suc, set_at, append_snoc, length-take-le, get_or-take, get_or_at, get_or-set_same, get_or-set_other}
-use Rattle.rules.specs.Station.{zeros}
-use Rattle.rules.specs.Words.{rows_of, row_at, Rowed, moved_up, moved_down, cut_rows}
-use Rattle.table.proofs.Rowed.{length-rows_of, rowed_then, next_row, first_row, past_put}
+use lib.ListN.{length, take, drop, get_or, set, take-append-drop, length-append, length-take, get_or-append}
+use lib.Seq.{drop-cons, take-suc, set_at, append_snoc, length-take-le, get_or-take, get_or_at, get_or-set_same, get_or-set_other}
+use Rattle.rules.specs.Words.{rows_of, row_at, Rowed, moved_down, cut_rows}
+use Rattle.table.proofs.Rowed.{length-rows_of, rowed_then}
 
 module _ (n : ℕ) (rs : List (List ℕ)) where
   pub down_none : moved_down n n rs ≡ rs
@@ -69,39 +67,6 @@ module _ (n : ℕ) (rs : List (List ℕ)) where
           let long : length (take k rs ++ (x ∷ [])) ≡ suc k = simp (length-append, length-take) (omega arith) in
           rw (down_cut, set_at (take k rs) row (row ∷ below) x k (length-take-le k rs (omega arith)), ← (append_snoc (take k rs) x (row ∷ below)), set_at (take k rs ++ (x ∷ [])) row below y (suc k) long)
           (append_snoc (take k rs) x (y ∷ below))
-
--- the rows from row 1 to row m moved one row up, as one part of the words
-rows_up : (N m : ℕ) (w : List ℕ) → m < N → 64 * N ≤ length w → rows_of N (take (64 * m) (drop 64 w) ++ drop (64 * m) w) ≡ take m (drop 1 (rows_of N w)) ++ drop m (rows_of N w)
-unfolding rows_of
-rows_up N zero w h room = refl
-rows_up zero (suc j) w h room = absurd (omega arith)
-rows_up (suc zero) (suc j) w h room = absurd (omega arith)
-rows_up (suc (suc M)) (suc j) w h room =
-    let later = drop 64 w in
-    let left : 64 * suc M ≤ length later = simp length-drop (omega arith) in
-    let row : length (take 64 later) ≡ 64 = length-take-le 64 later (omega arith) in
-    rw (next_row j, take-add 64 (64 * j) later, ← (drop-drop (64 * j) 64 w), append_assoc (take 64 later) (take (64 * j) (drop 64 later)) (drop (64 * j) later), first_row (suc M) (take 64 later) (take (64 * j) (drop 64 later) ++ drop (64 * j) later) row)
-    (ap (λ rs. take 64 later ∷ rs) (rows_up (suc M) j later (omega arith) left))
-
--- the rows move up, and the last is written over with zeros
-module _ (n : ℕ) (w v u : List ℕ) (some : 0 < n) (few : n ≤ 64) (room : 4096 ≤ length w) where
-  pub up_cleared : v ≡ paste w 0 (drop 64 w) (64 * n - 64) → Rowed v (set (rows_of 64 v) (n - 1) zeros) u → Rowed w (moved_up n (rows_of 64 w)) u
-  unfolding moved_up
-  up_cleared is cleared =
-      let m = n - 1 in
-      let R = rows_of 64 w in
-      let rows : length R ≡ 64 = length-rows_of 64 w in
-      let words : List ℕ = take (64 * m) (drop 64 w) ++ drop (64 * m) w in
-      let far : 64 * n - 64 ≡ 64 * m = omega arith in
-      let moved : v ≡ words = is ∙ rw (far, zero-add) in
-      let up : rows_of 64 v ≡ take m (drop 1 R) ++ drop m R = rw moved (rows_up 64 m w (omega arith) (omega arith)) in
-      let last : suc m ≡ n = omega arith in
-      let front : length (take m (drop 1 R)) ≡ m = length-take-le m (drop 1 R) (simp length-drop (omega arith)) in
-      let past : drop 4096 v ≡ drop 4096 w = rw moved (past_put 4096 0 (64 * m) w (take (64 * m) (drop 64 w)) (omega arith) room (length-take-le (64 * m) (drop 64 w) (simp length-drop (omega arith)))) in
-      record {
-        rows = cleared.rows ∙ rw (up, drop-cons R m [] (omega arith), set_at (take m (drop 1 R)) (get_or R m []) (drop (suc m) R) zeros m front, last);
-        past = cleared.past ∙ past;
-      }
 
 -- Room is made, and then each part in its place: both find the row as it was.
 module _ {w v u : List ℕ} (k n : ℕ) (f : List ℕ → List ℕ) (h : k < n) (room : n < 64) (opened : Rowed w (moved_down k n (rows_of 64 w)) v) (first : Rowed v (set (rows_of 64 v) k (f (row_at k v))) u) where

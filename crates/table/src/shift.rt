@@ -6,6 +6,17 @@ ghost use Rattle.table.specs.Row.{RowSet};
 use crate::row::row_clear;
 use rules::SLOTS;
 
+// Row k + 1 is copied over row k.
+fn row_up(shares: &mut [u32], k: usize)
+    requires share_words_in_bounds { share_words ≤ length shares.old }
+    requires k_bound { k + 1 < row_count }
+    ensures { RowSet shares.old k (row_at (k + 1) shares.old) shares.new }
+{
+    let a = SLOTS * k;
+    let b = a + 2 * SLOTS;
+    rows::store::copy_up(&mut shares[a..b]);
+}
+
 // Row k is copied over row k + 1.
 fn row_down(shares: &mut [u32], k: usize)
     requires share_words_in_bounds { share_words ≤ length shares.old }
@@ -25,8 +36,11 @@ pub fn drop_row(shares: &mut [u32], n: usize)
     ensures { Rowed shares.old (moved_up n (rows_of row_count shares.old))
         shares.new }
 {
-    shares.copy_within(SLOTS..SLOTS * n, 0);
-    row_clear(shares, n - 1);
+    let last = n - 1;
+    for k in 0..last {
+        row_up(shares, k);
+    }
+    row_clear(shares, last);
 }
 
 // Room for one more row after row k: of n rows in use, those from k on move down by one, the last of them first. Row k

@@ -1,5 +1,5 @@
 // The wrap of slice 0, read off its row: the shares are laid along one line, slot by slot, and each routine is one walk
-// along it. The parameter `slice` is the T of document 01: how many grains slice 0 has, from the plan start on.
+// along it. Slot, place and share change with each step, so they are passed one by one. The parameter `slice` is the T of document 01: how many grains slice 0 has, from the plan start on.
 #![tactic(auto)]
 
 pub mod segments; // segments.rt: the segments that a window on the wrap shows

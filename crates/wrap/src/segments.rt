@@ -8,7 +8,7 @@ ghost use Rattle.wrap.specs.Asked.{Laid, Shown, Room};
 ghost use Rattle.wrap.specs.Shown.{Looks, segment_of, window_of, slot_shown, shown_in, written_from, Wrote};
 
 use line::place::{Place, beyond};
-use rules::SLOTS;
+use rules::{SLOTS, WORDS_PER_SEGMENT};
 
 // A segment: the core, the slot that holds it, the first grain, and the grain after the last.
 #[derive(Clone, Copy)]
@@ -69,12 +69,12 @@ fn within(segment: Segment, window: Window) -> Segment
     }
 }
 
-// Four words after the first `count` segments.
+// Four words after the first `count` segments. Four stores: an array copied over them was tried, and each word is stored twice then.
 fn write(segment: Segment, buffer: &mut [u64], count: usize)
     requires { Room buffer.old count }
     ensures { buffer.new ≡ written_from count (segment_of segment ∷ []) buffer.old }
 {
-    let at = 4 * count;
+    let at = WORDS_PER_SEGMENT * count;
     buffer[at] = segment.core;
     buffer[at + 1] = segment.slot;
     buffer[at + 2] = segment.first;

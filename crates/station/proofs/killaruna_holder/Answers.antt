@@ -15,10 +15,10 @@ use Rattle.rules.specs.Numbers.{number_of}
 use Rattle.station.proofs.killaruna_holder.Goals as goal
 
 pub returns-in_default : goal.returns-in_default
-unfolding holder_in
+unfolding holder_in number_of
 returns-in_default c =
     let at = c.args in
-    short-result at.state.now at.shares.now [] at.res.now _ c.in_default.ensures.cases
+    rw c.number.ensures (short-result at.state.now at.shares.now [] at.res.now _ c.in_default.ensures.cases)
 
 pub returns-in_default-first_chunk : goal.returns-in_default-first_chunk
 unfolding holder_in answered answer_of refusal number_of

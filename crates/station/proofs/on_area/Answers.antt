@@ -11,7 +11,8 @@ use Rattle.station.proofs.Framed.{short_result-framed, short_state-framed, made-
 use Rattle.station.proofs.on_area.Goals as goal
 
 pub returns-in_default : goal.returns-in_default
-returns-in_default g c = short_result-framed _ _ _ _ c.in_default.ensures.cases
+unfolding number_of
+returns-in_default g c = rw c.number.ensures (short_result-framed _ _ _ _ c.in_default.ensures.cases)
 
 pub returns-in_default-first_chunk_mut : goal.returns-in_default-first_chunk_mut
 unfolding answered answer_of refusal number_of

@@ -28,4 +28,5 @@ returns c =
     let at = c.args in
     let p = planner at.state.now at.lists.now in
     let zeros : c.fill.new.self ≡ replicate list_words 0 = c.fill.ensures.after (λ y h. search rules) ∙ rw c.told-lists refl in
-    rw zeros (open_done p at.shares.now at.cores (none-is c.open_reason.ensures c.in_ok-open_reason.was) c.clear_table.ensures)
+    let e = c.default.ensures in
+    rw (zeros, e.1.0, e.1.1.0, e.1.1.1.0, e.1.1.1.1) (open_done p at.shares.now at.cores (none-is c.open_reason.ensures c.in_ok-open_reason.was) c.clear_table.ensures)

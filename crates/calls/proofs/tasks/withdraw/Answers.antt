@@ -6,6 +6,7 @@ use native.Mathlib.Omega.{arith}
 use Rattle.std.proofs.Common.{rules, Err}
 use Rattle.rules.specs.Held.{planner}
 use Rattle.rules.specs.Calls.{withdraw}
+use Rattle.rules.specs.declared.Task.{Task}
 use Rattle.rules.specs.Station.{free}
 use Rattle.calls.proofs.Called.{err-left, none-is, one-is}
 use Rattle.calls.proofs.Slotted.{withdrawn-inside, withdrawn_bit, withdrawn-left}
@@ -39,6 +40,9 @@ returns c =
     let at = c.args in
     let p = planner at.state.now at.lists.now in
     let put = c.put_task in
+    let k = c.default.result in
+    let e = c.default.ensures in
+    let none : ◌≡◌ {A = Task} (record { period = k.period; cost = k.cost; rate = k.rate; deadline = k.deadline }) free = rw (e.0, e.1.0, e.1.1.0, e.1.1.1) in
     let z = none-is c.may_withdraw.ensures c.in_ok-may_withdraw.was in
     let bit = withdrawn_bit p at.shares.now (omega arith) at.slot z in
-    withdrawn-left p at.shares.now (omega arith) at.slot z _ (omega arith) put.ensures (omega (arith, c.bit_of.ensures))
+    withdrawn-left p at.shares.now (omega arith) at.slot z _ (omega arith) (rw none at put.ensures) (omega (arith, c.bit_of.ensures))
