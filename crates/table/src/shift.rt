@@ -6,6 +6,9 @@ ghost use Rattle.table.specs.Row.{RowSet};
 use crate::row::row_clear;
 use rules::SLOTS;
 
+// Rows move one at a time, each pair of rows lent to the routine that copies one over the other. `copy_within` over all of them was tried,
+// and is no faster.
+
 // Row k + 1 is copied over row k.
 fn row_up(shares: &mut [u32], k: usize)
     requires share_words_in_bounds { share_words ≤ length shares.old }
