@@ -17,6 +17,7 @@ fn told(rt: &impl Print, next: Next) -> io::Result<Planner> {
     Ok(next.planner)
 }
 
+// What holder answers, printed: each case, so this is a `match`.
 fn tell(rt: &impl Print, holder: Result<Holder, Refusal>) -> io::Result<()> {
     match holder {
         Ok(Holder::Held { slot, until }) => println!(rt; "HELD {slot} {until}"),

@@ -16,7 +16,8 @@ const NEWLINE: u8 = 10;
 pub struct Filled {
     pub len: usize,
     pub used: usize,
-    pub ended: bool, // The other two are told of each piece, so this is no Option over them.
+    // The other two are told of each piece, so this is no Option over them.
+    pub ended: bool,
 }
 
 // How many bytes of a piece stand before its first newline, or in all of it.
@@ -31,7 +32,7 @@ fn line_end(piece: &[u8]) -> usize
 }
 
 // A piece up to its first newline, or all of it, taken into a line of which len bytes are there. Nothing is allocated: the line is lent,
-// and its length goes with it.
+// and its length goes with it; that it is at most 65 is asked beside it.
 pub fn fill(line: &mut [u8], len: usize, piece: &[u8]) -> Filled
     requires line_bytes_in_bounds { line_bytes ≤ length line.old }
     requires len_bound { len ≤ suc line_bytes }

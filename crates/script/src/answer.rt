@@ -12,7 +12,6 @@ use planner::{Next, Planner};
 use rules::{Refusal, WORDS_PER_SEGMENT};
 use text::{Command, read_command, write_done, write_refused, write_segment};
 
-// "core, slot, first grain, grain after the last": a segment has four words.
 // "A malformed line answers 14": a number for lines alone, as no call of the planner answers it.
 const MALFORMED: u64 = 14;
 

@@ -50,7 +50,7 @@ pub fn numbers_of(state: State) -> [u64; LISTS_FROM]
     ]
 }
 
-// The words of a call's answer.
+// The words of a call's answer: numbers, as C is given them.
 #[tactic(auto, unfolding(calls::specs::Called::answer_of, rules::specs::Calls::refusal, crate::specs::Result::answer_words))]
 fn words_of(answer: Result<Done, Refusal>) -> [u64; RESULT_WORDS]
     ensures { result ≡ answer_words (answer_of answer) }

@@ -2,6 +2,8 @@
 // table's rows, so that callers see no offset. Words past the table stay as they were.
 // The shares are a slice of some least length and no array, as a station may lend more words than the table has. A row is named by its
 // number, below 64: its words begin at a product of it, so a type for such numbers would be taken apart at each use.
+// Each routine that changes a row cuts the table where the row begins: a function that hands row k out was tried, and gets no proof of the
+// table afterwards.
 #![tactic(auto)]
 
 pub mod row; // row.rt: one row of the table

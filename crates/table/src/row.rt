@@ -9,8 +9,6 @@ ghost use Rattle.table.specs.Row.{RowSet};
 use rows::look::RowFacts;
 use rules::SLOTS;
 
-// Each routine cuts the table where its row begins: a function that hands row k out was tried, and gets no proof of the table afterwards.
-
 // What a sound table asks of row k, whose slice ends `end` ticks after the plan start and has `most` grains.
 pub fn row_look(
     shares: &[u32],

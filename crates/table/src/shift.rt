@@ -7,7 +7,7 @@ use crate::row::row_clear;
 use rules::SLOTS;
 
 // Rows move one at a time, each pair of rows lent to the routine that copies one over the other. `copy_within` over all of them was tried,
-// and is no faster.
+// and is no faster (docs/DECISIONS.md).
 
 // Row k + 1 is copied over row k.
 fn row_up(shares: &mut [u32], k: usize)

@@ -19,7 +19,8 @@ pub struct Segment {
     pub after: u64,
 }
 
-// A window on the wrap: the grain of the plan start, and from where to where, in grains after it.
+// A window on the wrap: the grain of the plan start, and from where to where, in grains after it. Any numbers may stand in it; that it lies on
+// a slice is asked by name (`Looks`).
 #[derive(Clone, Copy)]
 pub struct Window {
     pub base: u64,
@@ -121,7 +122,7 @@ fn lay(
 }
 
 // The segments that a window shows, written to the buffer in the order along the line. Hands back their count. The
-// buffer is lent by the station and has a fixed size, so what stands in it is told by a count beside it.
+// buffer is lent and may be longer than is asked, so what stands in it is told by a count beside it.
 pub fn segments(row: &[u32; SLOTS], slice: u64, window: Window, buffer: &mut [u64]) -> usize
     requires laid { Laid slice row.now }
     requires shown { Shown slice window }
