@@ -1,4 +1,4 @@
-// Routines on one row of the share table: 64 shares, lent as a part of 64 words. No loop has a branch in it.
+// Routines on one row of the share table, an array of 64 shares. No loop has a branch in it.
 #![tactic(auto)]
 
 pub mod zero; // zero.rt: words that are all zero

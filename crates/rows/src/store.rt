@@ -25,12 +25,14 @@ pub fn copy_up(two: &mut [u32])
     }
 }
 
-// Of two rows that stand together, the first is copied over the second.
+// Of two rows that stand together, the first is copied over the second. By place: `copy_from_slice` is a call of `memcpy` for each row,
+// and the station's archive asks for no such name.
 pub fn copy_down(two: &mut [u32; TWO_ROWS])
     ensures { two.new ≡ take slot_count two.old ++ take slot_count two.old }
 {
-    let (first, second) = two.split_at_mut(SLOTS);
-    second.copy_from_slice(first);
+    for i in 0..SLOTS {
+        two[SLOTS + i] = two[i];
+    }
 }
 
 // One slot gets more grains.
