@@ -32,7 +32,7 @@ module _ (state shares segments result : List ℕ) (then : Lent) where
   unfolding lengths_first
   short-state room short = rw (le-ltb (length result) result_words room, lt-ltb (length state) state_words short)
 
-  long_enough : result_words ≤ length result → state_words ≤ length state → then ≡ lengths_first state shares segments result then
+  pub long_enough : result_words ≤ length result → state_words ≤ length state → then ≡ lengths_first state shares segments result then
   unfolding lengths_first
   long_enough room long = rw (le-ltb (length result) result_words room, le-ltb (length state) state_words long)
 

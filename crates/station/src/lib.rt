@@ -26,6 +26,7 @@ fn on_area<F: FnMut(&mut State, &mut [u64; LIST_WORDS]) -> Result<Done, Refusal>
     ensures { Framed F.FnMut call.old call.new state.old res.old state.new res.new result }
 {
     let Some(res) = res.first_chunk_mut::<RESULT_WORDS>() else {
+        // Nothing at all is written.
         return Refusal::NotSound.number();
     };
     let Some(area) = state.first_chunk_mut::<STATE_WORDS>() else {
@@ -139,6 +140,7 @@ pub extern "C" fn killaruna_holder(state: &[u64], shares: &[u32], core: u64, res
         ≡ holder_in state.now shares.now res.old core }
 {
     let Some(res) = res.first_chunk_mut::<RESULT_WORDS>() else {
+        // Nothing is written here either.
         return Refusal::NotSound.number();
     };
     let Some(area) = state.first_chunk::<STATE_WORDS>() else {
